@@ -24,3 +24,7 @@ faultMark (Length k) = k
 faultMark (Range k) = k
 faultMark (Worn k) = k
 faultMark (Damaged k) = k
+
+-- a shape that breaks the limits, in opening or building
+abbrev pub shapeNumber : ℕ
+shapeNumber = 2

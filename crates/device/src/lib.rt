@@ -3,7 +3,7 @@ ghost use mathlib.Core.Path.{_≡_};
 ghost use Prim.Native.Nat.{ℕ};
 ghost use lib.ListN.{length};
 ghost use Rattle.device.specs.declared.Layer.{Layer};
-ghost use Rattle.device.specs.Numbers.{layerCode, faultNumber, faultMark};
+ghost use Rattle.device.specs.Numbers.{layerCode, faultNumber, faultMark, shapeNumber};
 ghost use Rattle.device.specs.Meaning.{Meaning, Lawful, blocksOf, reading, writing, answered, filled, afterWrite, flushed, raised, raisedFault, passed};
 ghost use Rattle.device.specs.Cuts.{Cuts-agree};
 
@@ -35,6 +35,12 @@ pub enum DeviceFault {
     Worn(LayerMark),
     // The block's content is damaged.
     Damaged(LayerMark),
+}
+
+// The refusal of a shape that breaks the limits, in opening or building: what was handed over comes back.
+#[derive(Drop)]
+pub struct Unshaped<T> {
+    pub given: T,
 }
 
 pub trait Device {
@@ -149,6 +155,15 @@ impl DeviceFault {
             DeviceFault::Worn(m) => DeviceFault::Worn(m.raised()),
             DeviceFault::Damaged(m) => DeviceFault::Damaged(m.raised()),
         }
+    }
+}
+
+impl<T> Unshaped<T> {
+    // The refusal's number.
+    pub fn number(&self) -> u8
+        ensures { λ r. ⌜ r ≡ shapeNumber ⌝ }
+    {
+        2
     }
 }
 
