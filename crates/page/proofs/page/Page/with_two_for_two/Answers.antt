@@ -1,0 +1,23 @@
+use mathlib.Core.Path.{_≡_, refl, sym, ap, subst, _∙_}
+use mathlib.Core.List.{List, [], _∷_, _++_, map}
+use Prim.Native.Nat.{ℕ, suc, _+_, _-_, _<_, _≤_}
+use native.Mathlib.Omega.{arith}
+use borrow.Author.Needs.{needs}
+use borrow.Author.Count.{below-more}
+use lib.ListN.{length, getD, set, take, drop, length-set}
+use Rattle.page.specs.View.{pair, entries}
+use Rattle.page.proofs.Pages.{entries-length, entries-at}
+use Rattle.page.proofs.Shifts.{join-start, join-step}
+use Rattle.page.proofs.Editing.{first-at, covers-low, out-edit, out-length, one-length, both-edit, fewer-edit, del-hit, del-miss}
+use Rattle.page.proofs.page.Page.with_two_for_two.Needs as need
+
+pub with-one-requires : need.with-one-requires
+with-one-requires c κs =
+    omega (arith, entries-length (c .with-one-left .result), entries-length (c .args .self .now), c .pre, one-length (entries (c .args .self .now)) (c .args .i) (pair (c .args .e)) (omega (arith, entries-length (c .args .self .now), c .pre)), ap length (c .with-one-left .ensures .these))
+
+pub returns : need.returns
+returns c = record {
+  level = c .with-one .ensures .level ∙ c .with-one-left .ensures .level;
+  these = c .with-one .ensures .these ∙ ap (λ (q : List (ℕ × ℕ)). take (c .args .i + 1) q ++ pair (c .args .f) ∷ drop (suc (c .args .i + 1)) q) (c .with-one-left .ensures .these)
+      ∙ both-edit (entries (c .args .self .now)) (c .args .i) (pair (c .args .e)) (pair (c .args .f)) (omega (arith, entries-length (c .args .self .now), c .pre));
+}

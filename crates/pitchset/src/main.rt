@@ -1,0 +1,5 @@
+mod store;
+
+fn main(rt: LibcRuntime) -> std::io::Result<()> {
+    println!(rt, "x")
+}
