@@ -1,0 +1,5 @@
+pub mod Parents
+pub mod Steps
+pub mod Opens
+pub mod Reading
+pub mod Drops
