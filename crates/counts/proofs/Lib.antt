@@ -3,3 +3,4 @@ pub mod Steps
 pub mod Opens
 pub mod Reading
 pub mod Drops
+pub mod Granting

@@ -4,7 +4,7 @@ use mathlib.Core.Bool.{Bool, true, false, cond}
 use mathlib.Core.List.{List, [], _∷_, _++_, map}
 use Prim.Native.Nat.{ℕ, zero, suc, _+_, _-_, _<_, _≤_}
 use lib.ListN.{length, getD, set}
-use lib.Dec.{eqb}
+use lib.Dec.{eqb, ltb}
 use Rattle.std.specs.declared.option.Option.{Option}
 use Rattle.std.specs.Options.{isSome}
 use Rattle.page.specs.Block.{Block, kidsOf, levelOf}
@@ -56,3 +56,12 @@ pub record Roomy (ks cs : List ℕ) : Type 0 where
 -- a reference to x given up for references to its children ks
 abbrev pub opened : List ℕ → ℕ → List ℕ → List ℕ
 opened ks x cs = cond (eqb (getD cs x 0) 1) (set cs x 0) (set (addAll ks cs) x (getD (addAll ks cs) x 0 - 1))
+
+-- of the k blocks from b on, those that nothing refers to
+abbrev pub spare : ℕ → ℕ → List ℕ → List ℕ
+spare zero b cs = []
+spare (suc k) b cs = cond (ltb 0 (getD cs b 0)) (spare k (suc b) cs) (b ∷ spare k (suc b) cs)
+
+-- the free tree blocks, ascending; blocks 0 and 1 are slots
+abbrev pub freeBlocks : List ℕ → List ℕ
+freeBlocks cs = spare (length cs - 2) 2 cs

@@ -7,8 +7,10 @@ ghost use Rattle.counts.specs.Counts.{Alive-is-reached, addAll, opened, Roomy}
 ghost use Rattle.page.specs.Block.{kidsOf};
 ghost use Rattle.page.specs.View.{view};
 
+mod grant;
 mod store;
 
+pub use grant::Grant;
 pub use store::Store;
 use page::page::Page;
 
