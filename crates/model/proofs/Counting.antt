@@ -19,7 +19,8 @@ use Rattle.tree.specs.Stored.{isNew}
 use Rattle.tree.specs.Numbered.{onward, news}
 use Rattle.tree.specs.Apart.{taking, along, collect, itsPlace, places}
 use Rattle.tree.proofs.News.{tally-append}
-use Rattle.model.specs.Forest.{once, occ, Each}
+use Rattle.counts.specs.Counts.{one, occ}
+use Rattle.model.specs.TreeBlocks.{Each}
 use Rattle.model.specs.World.{targets}
 use Rattle.model.proofs.Frames.{IsWrite}
 
@@ -27,11 +28,11 @@ abbrev without : ℕ → List ℕ → List ℕ
 without x [] = []
 without x (y ∷ ys) = cond (eqb x y) ys (y ∷ without x ys)
 
-one-here : (x y : ℕ) → eqb x y ≡ true → (b : ℕ) → once b y ≡ once b x
-one-here x y e b = ap (once b) (sym (eqb-true x y e))
+one-here : (x y : ℕ) → eqb x y ≡ true → (b : ℕ) → one y b ≡ one x b
+one-here x y e b = ap (λ n. one n b) (sym (eqb-true x y e))
 
 abbrev Splits : ℕ → List ℕ → List ℕ → Type 0
-Splits x ys zs = ((b : ℕ) → occ b ys ≡ once b x + occ b zs) × (length ys ≡ suc (length zs))
+Splits x ys zs = ((b : ℕ) → occ b ys ≡ one x b + occ b zs) × (length ys ≡ suc (length zs))
 
 split-occ : (x : ℕ) (ys : List ℕ) → 0 < occ x ys → Splits x ys (without x ys)
 split-occ x [] h = absurd (omega arith)
@@ -44,7 +45,7 @@ split-occ x (y ∷ ys) h = go (split-occ x ys) (eqb x y) refl h
         ((λ b. let z = r .0 b in omega (arith, z)), ap suc (r .1))
 
 occ-head : (x : ℕ) (xs : List ℕ) → 0 < occ x (x ∷ xs)
-occ-head x xs = let e : once x x ≡ 1 = ap {B = ℕ} (λ k. cond k 1 0) (eq-eqb x x refl) in omega (arith, e)
+occ-head x xs = let e : one x x ≡ 1 = ap {B = ℕ} (λ k. cond k 1 0) (eq-eqb x x refl) in omega (arith, e)
 
 pub same-length : (xs ys : List ℕ) → ((b : ℕ) → occ b xs ≡ occ b ys) → length xs ≡ length ys
 same-length [] [] h = refl

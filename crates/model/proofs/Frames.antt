@@ -18,9 +18,9 @@ use Rattle.device.specs.Cuts.{Op, Op.write, Op.flush, Choice, Choice.old, Choic
 use Rattle.device.proofs.Choices.{cut-at, cut-blocks, flush-at, write-at, write-off, blocks-apply, blocks-replay, width-replay}
 use Rattle.page.specs.Slot.{Root, Table, slotWords, slotRead, SlotFits, every, rooted}
 use Rattle.model.specs.Plain.{place}
-use Rattle.model.specs.Forest.{elem, AllGood, Tree, treeAt, reach, form, Good, Each}
-use Rattle.model.proofs.Woods.{elem-left, elem-right, elem-cases, tree-same, good-one, fit-inside, reach-form}
-use Rattle.model.specs.Model.{Trees, forms, reaches, drained}
+use Rattle.model.specs.TreeBlocks.{elem, AllGood, Tree, treeAt, reach, form, Good, Each}
+use Rattle.model.proofs.TreeLaws.{elem-left, elem-right, elem-cases, tree-same, good-one, fit-inside, reach-form}
+use Rattle.model.specs.Model.{Trees, forms, reaches, leftAfter}
 use Rattle.model.specs.World.{trees}
 
 pub apart : (x b : ℕ) (R : List ℕ) → T (elem x R) → (T (elem b R) → ⊥) → eqb x b ≡ false
@@ -70,7 +70,7 @@ abbrev pub IsWrite : Op → Type 0
 IsWrite (write b ws) = Unit
 IsWrite flush = ⊥
 
-pub left-replay : (os : List Op) (m : Meaning) → Each IsWrite os → replay os m .left ≡ drained (length os) (m .left)
+pub left-replay : (os : List Op) (m : Meaning) → Each IsWrite os → replay os m .left ≡ leftAfter (length os) (m .left)
 left-replay [] m h = refl
 left-replay (write b ws ∷ os) m h = left-replay os (apply (write b ws) m) (h .1)
 left-replay (flush ∷ os) m h = absurd (h .0)

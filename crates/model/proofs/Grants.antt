@@ -25,10 +25,10 @@ use Rattle.model.specs.declared.refusal.Refusal.the-variants.{Number, Speed, A
 use Rattle.model.specs.Plain.{Map, place, has, first, early, Ask}
 use Rattle.table.specs.Rows.{offAngle}
 use Rattle.model.specs.Plain.{Ask.create, Ask.put, Ask.remove}
-use Rattle.model.specs.Forest.{Tree, Form, form, bareTree, raw, angle, rowsOf, rootOf, Deed, Deed.begin, Deed.puts, Deed.takes, grow, topLevel, treeAt, Each, Fit, Good, AllGood, elem}
-use Rattle.model.specs.Model.{Trees, Model, Shapes, shapeOf, unused, used, free, height, holds, needs, late, refusal, treeOf, source, sprout, forms}
+use Rattle.model.specs.TreeBlocks.{Tree, Form, form, bareTree, raw, angle, rowsOf, rootOf, Change, Change.begin, Change.puts, Change.takes, changedOn, topLevel, treeAt, Each, Fit, Good, AllGood, elem}
+use Rattle.model.specs.Model.{Trees, Model, Shapes, shapeOf, unused, used, free, height, holds, needs, late, refusal, treeOf, source, newTree, forms}
 use Rattle.model.specs.World.{Tables, trees, modelOf, shape, sizes, slotIn}
-use Rattle.model.proofs.Woods.{Allowed, done, needed, grow-wf, grow-rows, grow-fit, begin-fit, angle-raw, raw-range}
+use Rattle.model.proofs.TreeLaws.{Allowed, done, needed, grow-wf, grow-rows, grow-fit, begin-fit, angle-raw, raw-range}
 use Rattle.model.proofs.Frames.{Goods, good-at, OnPlace, trees-place, treeAt?}
 use Rattle.model.proofs.Places.{formOf?, forms-place}
 
@@ -148,7 +148,7 @@ module _ (t : Tables) (m : Meaning) (z : sizes (blocksOf m) (m .width) ≡ true)
   level-at r g = tall (r .0) (g .height)
 
   -- what a put or a remove starts from
-  pub record Start (n : ℕ) (d : Deed ℕ) : Type 0 where
+  pub record Start (n : ℕ) (d : Change ℕ) : Type 0 where
     pub rooted : Rooted n
     pub sound : Fit (blocksOf m) (treeOf M n)
     pub allowed : Allowed d
@@ -184,33 +184,33 @@ module _ (t : Tables) (m : Meaning) (z : sizes (blocksOf m) (m .width) ≡ true)
       record { rooted = R; sound = subst (Fit (blocksOf m)) (sym (R .tree)) (R .good .fit); allowed = omega arith; room = omega arith }
 
   -- the new tree is sound, and has the rows that the plain tables say
-  pub create-fit : (n : ℕ) → refusal S (create n) ≡ None → Fit (blocksOf m) (sprout M n begin)
+  pub create-fit : (n : ℕ) → refusal S (create n) ≡ None → Fit (blocksOf m) (newTree M n begin)
   create-fit n e = begin-fit (blocksOf m) (free S) bareTree blocks-free (enough n 1 (either-none (early (has (S .working)) (create n)) (late S (create n)) e .1))
 
-  pub put-fit : (n s : ℕ) (a : ℤ) → refusal S (put n s a) ≡ None → Fit (blocksOf m) (sprout M n (puts s (raw a)))
+  pub put-fit : (n s : ℕ) (a : ℤ) → refusal S (put n s a) ≡ None → Fit (blocksOf m) (newTree M n (puts s (raw a)))
   put-fit n s a e = let B = put-start n s a e .0 in grow-fit (blocksOf m) (puts s (raw a)) (free S) (treeOf M n) (B .allowed) blocks-free (B .room) (B .sound)
 
-  pub remove-fit : (n s : ℕ) → refusal S (remove n s) ≡ None → holds S n s ≡ true → Fit (blocksOf m) (sprout M n (takes s))
+  pub remove-fit : (n s : ℕ) → refusal S (remove n s) ≡ None → holds S n s ≡ true → Fit (blocksOf m) (newTree M n (takes s))
   remove-fit n s e h = let B = remove-start n s e h in grow-fit (blocksOf m) (takes s) (free S) (treeOf M n) (B .allowed) blocks-free (B .room) (B .sound)
 
   wf : (t : Tree) → Fit (blocksOf m) t → Wf ℕ ℕ (t .0) (t .1)
   wf t F = same-rule ℕ ℕ (t .0) (t .1) .1 (F .laid)
 
-  pub put-rows : (n s : ℕ) (a : ℤ) → refusal S (put n s a) ≡ None → rowsOf (sprout M n (puts s (raw a))) ≡ ins s a (rowsOf (treeOf M n))
+  pub put-rows : (n s : ℕ) (a : ℤ) → refusal S (put n s a) ≡ None → rowsOf (newTree M n (puts s (raw a))) ≡ ins s a (rowsOf (treeOf M n))
   put-rows n s a e =
       let B = put-start n s a e in
       let rs : List (ℕ × ℕ) = rows ℕ ℕ (treeOf M n .0) (treeOf M n .1) in
       ap (mapE angle) (grow-rows (puts s (raw a)) (free S) (treeOf M n) (B .0 .allowed) (wf (treeOf M n) (B .0 .sound)))
       ∙ map-ins angle s (raw a) rs ∙ ap (λ x. ins s x (mapE angle rs)) (angle-raw a (B .1))
 
-  pub remove-rows : (n s : ℕ) → refusal S (remove n s) ≡ None → holds S n s ≡ true → rowsOf (sprout M n (takes s)) ≡ del s (rowsOf (treeOf M n))
+  pub remove-rows : (n s : ℕ) → refusal S (remove n s) ≡ None → holds S n s ≡ true → rowsOf (newTree M n (takes s)) ≡ del s (rowsOf (treeOf M n))
   remove-rows n s e h =
       let B = remove-start n s e h in
       ap (mapE angle) (grow-rows (takes s) (free S) (treeOf M n) (B .allowed) (wf (treeOf M n) (B .sound)))
       ∙ map-del angle s (rows ℕ ℕ (treeOf M n .0) (treeOf M n .1))
 
-pub create-rows : (M : Model) (n : ℕ) → rowsOf (sprout M n begin) ≡ []
-unfolding grow
+pub create-rows : (M : Model) (n : ℕ) → rowsOf (newTree M n begin) ≡ []
+unfolding changedOn
 create-rows M n = refl
 
 -- a clone is in the shape exactly when it is in the table

@@ -21,17 +21,17 @@ use Rattle.model.specs.declared.refusal.Refusal.{Refusal}
 use Rattle.model.specs.declared.refusal.Refusal.the-variants.{Worn, Last, Shape}
 use Rattle.model.specs.Plain.{Map, place, Ask, Call, Answer, answer, first, blank}
 use Rattle.model.specs.Plain.{Ask.create, Ask.clone, Ask.delete, Ask.put, Ask.remove, Ask.get, Ask.at, Ask.rows, Ask.summary, Ask.seal, Call.ask, Call.finish, Call.reopen, Call.mount, Answer.done, Answer.refused}
-use Rattle.model.specs.Forest.{Tree, Deed, Deed.begin, Deed.puts, Deed.takes, elem, AllGood, form, blunt, raw, rootOf, treeAt, Stored, Fit, Good, Each, newBlocks, changed}
+use Rattle.model.specs.TreeBlocks.{Tree, Change, Change.begin, Change.puts, Change.takes, elem, AllGood, form, withoutAngle, raw, rootOf, treeAt, Stored, Fit, Good, Each, newBlocks, changed}
 use Rattle.model.specs.Walk.{walk, Fault}
-use Rattle.model.proofs.Woods.{elem-left, elem-right, elem-cases, tree-stored, writes-form}
+use Rattle.model.proofs.TreeLaws.{elem-left, elem-right, elem-cases, tree-stored, writes-form}
 use Rattle.model.proofs.Walks.{walk-none}
 use Rattle.model.proofs.Counting.{same-length, targets-length, places-length}
 use Rattle.std.proofs.shelf.Lists.{length-map}
 use Rattle.tree.specs.Apart.{places}
 use Rattle.model.proofs.Grants.{slot-law, sizes-parts, create-fit, put-fit, remove-fit}
 use Rattle.std.proofs.shelf.Tests.{cases-eq}
-use Rattle.model.specs.Model.{Trees, Model, Shapes, shapeOf, mapsOf, refusal, late, free, used, holds, treeOf, source, sprout, spends, standing, forms, reaches, drained, next, reply, after, grown, broken, landed, finished, cutModel, working≔}
-use Rattle.model.specs.World.{Tables, Mode, Mode.mounted, Mode.sealed, Mode.down, placed, finishedTables, Event, Event.did, Event.broke, Event.lost, trees, modelOf, shape, latest, walked, faulty, found, sizes, slotIn, fresh, Formatted, FreeWrite, Grown, targets, Effect, Quiet, Mounts, Does, Step, Run, Traced, bare, Refines}
+use Rattle.model.specs.Model.{Trees, Model, Shapes, shapeOf, mapsOf, refusal, late, free, used, holds, treeOf, source, newTree, writesFor, standing, forms, reaches, leftAfter, next, reply, after, withChange, broken, landed, finished, cutModel, working≔}
+use Rattle.model.specs.World.{Tables, Mode, Mode.mounted, Mode.sealed, Mode.down, placed, finishedTables, Event, Event.did, Event.broke, Event.lost, trees, modelOf, shape, latest, walked, faulty, found, sizes, slotIn, fresh, Formatted, FreeWrite, Changed, targets, Effect, Quiet, Mounts, Does, Step, Run, Traced, bare, Refines}
 use Rattle.model.proofs.Frames.{Calm, calm-cut, Still, Keeps, Off, IsWrite, left-replay, layer-replay, calm-apply, calm-replay, keeps-writes, cut-calm, keeps-cut, keeps-flush, still-keeps, Same, each-take, each-map, OnPlace, good-at, good-set, Goods, Reaches, trees-same, good-same, good-inside, trees-place, trees-put, treeAt?}
 
 -- 0 and 1, and no more, stand below 2
@@ -199,13 +199,13 @@ are-writes : (t : Tables) (m : Meaning) (o : Op) → FreeWrite t m o → IsWrite
 are-writes t m (write b ws) f = tt
 are-writes t m flush f = f
 
-sown-fine : (t : Tables) (m : Meaning) (n : ℕ) (d : Deed ℕ) (os : List Op) (w′ : Mode) → Base t m → Fit (blocksOf m) (sprout (modelOf t m) n d) → Grown t m n d os w′ (replay os m) → Fine (grown (modelOf t m) n d) w′ (replay os m)
+sown-fine : (t : Tables) (m : Meaning) (n : ℕ) (d : Change ℕ) (os : List Op) (w′ : Mode) → Base t m → Fit (blocksOf m) (newTree (modelOf t m) n d) → Changed t m n d os w′ (replay os m) → Fine (withChange (modelOf t m) n d) w′ (replay os m)
 unfolding Fine
 sown-fine t m n d os w′ B F G =
-    let u : Tree = sprout (modelOf t m) n d in
+    let u : Tree = newTree (modelOf t m) n d in
     let r : Root = rootOf u in
     let m₁ : Meaning = replay os m in
-    let k : ℕ = spends (modelOf t m) n d in
+    let k : ℕ = writesFor (modelOf t m) n d in
     let K = free-kept t m os B (G .0) in
     let same : Same (Reaches (currentAt m) (t .working)) (currentAt m) (currentAt m₁) = λ b h. ap (λ c. c .current) (keeps-free t m os (G .0) b (in-working t m b h)) in
     let eb : blocksOf m₁ ≡ blocksOf m = blocks-replay os m in
@@ -219,19 +219,19 @@ sown-fine t m n d os w′ B F G =
     let en : length os ≡ k
           = sym (targets-length os ws) ∙ same-length (targets os) (newBlocks d (free (shape t m)) (source (modelOf t m) n d)) (G .1)
             ∙ length-map ps (λ i. getD (free (shape t m)) i 0) ∙ places-length ℕ (changed ℕ d (source (modelOf t m) n d)) ∙ writes-form d (source (modelOf t m) n d) in
-    let el : m₁ .left ≡ drained k (m .left) = left-replay os m ws ∙ ap (λ y. drained y (m .left)) en in
+    let el : m₁ .left ≡ leftAfter k (m .left) = left-replay os m ws ∙ ap (λ y. leftAfter y (m .left)) en in
     let base : Base (placed t (set (t .working) n (Some r))) m₁ = record {
           calm = calm-replay os m (B .calm);
           kept = K .0;
           len = length-set (t .working) n (Some r) ∙ B .len;
           goods = subst (λ y. Goods y (currentAt m₁) (set (t .working) n (Some r))) (sym eb) (good-set (Good (blocksOf m) (currentAt m₁)) (t .working) n (Some r) gs g₁);
         } in
-    subst (λ w. Fine (grown (modelOf t m) n d) w m₁) (sym (G .2)) (base, λ i. record { working = ms i; committed = K .1 i; generation = t .generation; blocks = eb i; left = el i; layer = layer-replay os m i })
+    subst (λ w. Fine (withChange (modelOf t m) n d) w m₁) (sym (G .2)) (base, λ i. record { working = ms i; committed = K .1 i; generation = t .generation; blocks = eb i; left = el i; layer = layer-replay os m i })
 
-grown-fine : (t : Tables) (m : Meaning) (n : ℕ) (d : Deed ℕ) (os : List Op) (w′ : Mode) (m′ : Meaning) → Base t m → m′ ≡ replay os m → Fit (blocksOf m) (sprout (modelOf t m) n d) → Grown t m n d os w′ m′ → Fine (grown (modelOf t m) n d) w′ m′
-grown-fine t m n d os w′ m′ B em F G = subst (λ x. Grown t m n d os w′ x → Fine (grown (modelOf t m) n d) w′ x) (sym em) (at-end t m n d os w′ B F) G
+grown-fine : (t : Tables) (m : Meaning) (n : ℕ) (d : Change ℕ) (os : List Op) (w′ : Mode) (m′ : Meaning) → Base t m → m′ ≡ replay os m → Fit (blocksOf m) (newTree (modelOf t m) n d) → Changed t m n d os w′ m′ → Fine (withChange (modelOf t m) n d) w′ m′
+grown-fine t m n d os w′ m′ B em F G = subst (λ x. Changed t m n d os w′ x → Fine (withChange (modelOf t m) n d) w′ x) (sym em) (at-end t m n d os w′ B F) G
   where
-    at-end : (t : Tables) (m : Meaning) (n : ℕ) (d : Deed ℕ) (os : List Op) (w′ : Mode) → Base t m → Fit (blocksOf m) (sprout (modelOf t m) n d) → Grown t m n d os w′ (replay os m) → Fine (grown (modelOf t m) n d) w′ (replay os m)
+    at-end : (t : Tables) (m : Meaning) (n : ℕ) (d : Change ℕ) (os : List Op) (w′ : Mode) → Base t m → Fit (blocksOf m) (newTree (modelOf t m) n d) → Changed t m n d os w′ (replay os m) → Fine (withChange (modelOf t m) n d) w′ (replay os m)
     at-end = sown-fine
 
 -- a call that leaves the device alone
@@ -295,7 +295,7 @@ effect-fine (delete n) t m os w′ m′ B em no′ E =
 effect-fine (put n s a) t m os w′ m′ B em no′ E = grown-fine t m n (puts s (raw a)) os w′ m′ B em (put-fit t m (B .kept .sized) (B .goods) n s a no′) E
 effect-fine (remove n s) t m os w′ m′ B em no′ E = go (holds (shape t m) n s) refl E
   where
-    go : (k : Bool) → holds (shape t m) n s ≡ k → cond k (Grown t m n (takes s) os w′ m′) (Quiet (mounted t) os w′) → Fine (cond k (grown (modelOf t m) n (takes s)) (modelOf t m)) w′ m′
+    go : (k : Bool) → holds (shape t m) n s ≡ k → cond k (Changed t m n (takes s) os w′ m′) (Quiet (mounted t) os w′) → Fine (cond k (withChange (modelOf t m) n (takes s)) (modelOf t m)) w′ m′
     go true h E = grown-fine t m n (takes s) os w′ m′ B em (remove-fit t m (B .kept .sized) (B .goods) n s no′ h) E
     go false h E = quiet-fine _ (mounted t) w′ m m′ os em E (B, refl)
 effect-fine (get n s) t m os w′ m′ B em no′ E = quiet-fine _ (mounted t) w′ m m′ os em E (B, refl)
@@ -427,7 +427,7 @@ effect-ops (delete n) t m os w′ m′ E = inr (subst (Each (FreeWrite t m)) (sy
 effect-ops (put n s a) t m os w′ m′ E = inr (E .0)
 effect-ops (remove n s) t m os w′ m′ E = go (holds (shape t m) n s) E
   where
-    go : (k : Bool) → cond k (Grown t m n (takes s) os w′ m′) (Quiet (mounted t) os w′) → (os ≡ flush ∷ []) ⊎ Each (FreeWrite t m) os
+    go : (k : Bool) → cond k (Changed t m n (takes s) os w′ m′) (Quiet (mounted t) os w′) → (os ≡ flush ∷ []) ⊎ Each (FreeWrite t m) os
     go true E = inr (E .0)
     go false E = inr (subst (Each (FreeWrite t m)) (sym (E .0)) tt)
 effect-ops (get n s) t m os w′ m′ E = inr (subst (Each (FreeWrite t m)) (sym (E .0)) tt)

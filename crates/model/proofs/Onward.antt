@@ -18,16 +18,16 @@ use Rattle.page.specs.Slot.{Root, Table, slotWords}
 use Rattle.model.specs.declared.refusal.Refusal.{Refusal}
 use Rattle.model.specs.Plain.{Map, place, Ask, Call, Answer, answer, blank, early, has}
 use Rattle.model.specs.Plain.{Ask.create, Ask.clone, Ask.delete, Ask.put, Ask.remove, Ask.get, Ask.at, Ask.rows, Ask.summary, Ask.seal, Call.ask, Call.finish, Call.reopen, Call.mount, Answer.done, Answer.refused}
-use Rattle.model.specs.Forest.{Tree, form, elem, Deed, Deed.begin, Deed.puts, Deed.takes, raw, rootOf, treeAt, reach, Stored, bareTree}
-use Rattle.model.specs.Model.{Model, mapsOf, refusal, late, free, used, holds, treeOf, source, sprout, next, broken, cutModel}
-use Rattle.model.specs.World.{Tables, Mode, Mode.mounted, Mode.sealed, Mode.down, placed, finishedTables, Event, Event.did, Event.broke, Event.lost, trees, modelOf, shape, found, fresh, sizes, Formatted, Grown, Effect, Quiet, Mounts, Does, Step, Run, bare}
+use Rattle.model.specs.TreeBlocks.{Tree, form, elem, Change, Change.begin, Change.puts, Change.takes, raw, rootOf, treeAt, reach, Stored, bareTree}
+use Rattle.model.specs.Model.{Model, mapsOf, refusal, late, free, used, holds, treeOf, source, newTree, next, broken, cutModel}
+use Rattle.model.specs.World.{Tables, Mode, Mode.mounted, Mode.sealed, Mode.down, placed, finishedTables, Event, Event.did, Event.broke, Event.lost, trees, modelOf, shape, found, fresh, sizes, Formatted, Changed, Effect, Quiet, Mounts, Does, Step, Run, bare}
 use Rattle.model.specs.Right.{Ends}
 use Rattle.model.specs.Onward.{Turn, Goes-on, formatting, Formats}
-use Rattle.model.proofs.Woods.{elem-left, elem-right, stored-same, reach-form}
+use Rattle.model.proofs.TreeLaws.{elem-left, elem-right, stored-same, reach-form}
 use Rattle.model.proofs.Frames.{Goods, Reaches}
 use Rattle.model.proofs.Grants.{Start, put-start, remove-start, enough, create-fit, put-fit, remove-fit, either-none, sizes-parts}
 use Rattle.model.proofs.Histories.{Base, Fine, step-fine, broke-fine, idle-cut, formatted-fine, in-working}
-use Rattle.model.proofs.Meets.{script, met}
+use Rattle.model.proofs.Progress.{script, met}
 
 -- a clone's blocks are used
 spot-reach : (c : ℕ → Content) (t : Table) (n : ℕ) (r : Root) (b : ℕ) → place t n ≡ Some r → T (elem b (reach (treeAt c r))) → T (elem b (Reaches c t))
@@ -41,7 +41,7 @@ spot-reach c (Some x ∷ t) (suc n) r b e h = elem-right b (reach (form (treeAt 
 
 module _ (t : Tables) (m : Meaning) (B : Base t m) where
   -- the clone's tree still stands where its blocks are unchanged
-  still-stored : (n : ℕ) (d : Deed ℕ) → Start t m (B .kept .sized) (B .goods) n d → (c : ℕ → Content) → ((b : ℕ) → T (elem b (0 ∷ 1 ∷ used (shape t m))) → c b ≡ currentAt m b) → Stored c (treeOf (modelOf t m) n)
+  still-stored : (n : ℕ) (d : Change ℕ) → Start t m (B .kept .sized) (B .goods) n d → (c : ℕ → Content) → ((b : ℕ) → T (elem b (0 ∷ 1 ∷ used (shape t m))) → c b ≡ currentAt m b) → Stored c (treeOf (modelOf t m) n)
   still-stored n d s c h =
       let R = s .rooted in
       let r : Root = R .root in
@@ -52,23 +52,23 @@ module _ (t : Tables) (m : Meaning) (B : Base t m) where
   Can q = (os : List Op) × (w′ : Mode) × Effect t m q os w′ (replay os m)
 
   can-remove : (n s : ℕ) → refusal (shape t m) (remove n s) ≡ None → (k : Bool) → holds (shape t m) n s ≡ k
-    → (os : List Op) × (w′ : Mode) × cond k (Grown t m n (takes s) os w′ (replay os m)) (Quiet (mounted t) os w′)
+    → (os : List Op) × (w′ : Mode) × cond k (Changed t m n (takes s) os w′ (replay os m)) (Quiet (mounted t) os w′)
   can-remove n s e true h =
       let S = remove-start t m (B .kept .sized) (B .goods) n s e h in
-      (script t m B n (takes s), mounted (placed t (set (t .working) n (Some (rootOf (sprout (modelOf t m) n (takes s)))))),
+      (script t m B n (takes s), mounted (placed t (set (t .working) n (Some (rootOf (newTree (modelOf t m) n (takes s)))))),
        met t m B n (takes s) (S .room) (remove-fit t m (B .kept .sized) (B .goods) n s e h) (still-stored n (takes s) S))
   can-remove n s e false h = ([], mounted t, (refl, refl))
 
   can : (q : Ask) → refusal (shape t m) q ≡ None → Can q
   can (create n) e =
-      (script t m B n begin, mounted (placed t (set (t .working) n (Some (rootOf (sprout (modelOf t m) n begin))))),
+      (script t m B n begin, mounted (placed t (set (t .working) n (Some (rootOf (newTree (modelOf t m) n begin))))),
        met t m B n begin (enough t m (B .kept .sized) (B .goods) n 1 (either-none (early (has (shape t m .working)) (create n)) (late (shape t m) (create n)) e .1))
          (create-fit t m (B .kept .sized) (B .goods) n e) (λ c h. tt))
   can (clone f n) e = ([], mounted (placed t (set (t .working) n (place (t .working) f))), (refl, refl))
   can (delete n) e = ([], mounted (placed t (set (t .working) n None)), (refl, refl))
   can (put n s a) e =
       let S = put-start t m (B .kept .sized) (B .goods) n s a e .0 in
-      (script t m B n (puts s (raw a)), mounted (placed t (set (t .working) n (Some (rootOf (sprout (modelOf t m) n (puts s (raw a))))))),
+      (script t m B n (puts s (raw a)), mounted (placed t (set (t .working) n (Some (rootOf (newTree (modelOf t m) n (puts s (raw a))))))),
        met t m B n (puts s (raw a)) (S .room) (put-fit t m (B .kept .sized) (B .goods) n s a e) (still-stored n (puts s (raw a)) S))
   can (remove n s) e = can-remove n s e (holds (shape t m) n s) refl
   can (get n s) e = ([], mounted t, (refl, refl))

@@ -8,7 +8,7 @@ use Rattle.std.specs.declared.option.Option.{Option}
 use Rattle.std.specs.declared.option.Option.the-variants.{Some, None}
 use Rattle.page.specs.Slot.{Root}
 use Rattle.model.specs.Plain.{Map, Maps, place}
-use Rattle.model.specs.Forest.{Tree, Form, Deed, Deed.begin, Deed.puts, Deed.takes, form, bareTree, rowsOf}
+use Rattle.model.specs.TreeBlocks.{Tree, Form, Change, Change.begin, Change.puts, Change.takes, form, bareTree, rowsOf}
 use Rattle.model.specs.Model.{Trees, Forms, Model, Shapes, forms, mapsOf, shapeOf, formAt, treeOf, source}
 
 abbrev pub formOf? : Option (Root × Tree) → Option (Root × Form)

@@ -18,23 +18,25 @@ use Rattle.tree.specs.Tree as tree
 use Rattle.tree.specs.Tree.{Pay, Marks, All}
 use Rattle.tree.specs.Apart.{In}
 use Rattle.page.specs.Block.{blockIn, blockAt, children, kidsOf}
-use Rattle.model.specs.Forest.{Tree, form, reach, elem, once, occ, payload, blockOf, topLevel, treeAt, Good, AllGood}
+use Rattle.counts.specs.Counts.{one, occ, Reached, root, child, spare}
+use Rattle.counts.proofs.Steps.{alive-is-reached}
+use Rattle.model.specs.TreeBlocks.{Tree, form, reach, elem, payload, blockOf, topLevel, treeAt, Good, AllGood}
 use Rattle.model.specs.Model.{used, free, unused, reaches, forms}
 use Rattle.model.specs.World.{Tables, shape, trees}
-use Rattle.model.specs.Reach.{rootsOf, rootings, Reached, Reached.root, Reached.child, Standing, Use-is-reach, spare, Free-by-counts}
-use Rattle.model.proofs.Woods.{elem-left, elem-right, elem-cases, elem-here, elem-head, reach-form}
+use Rattle.model.specs.Reach.{rootsOf, rootings, Standing, Use-is-reach, Free-by-counts}
+use Rattle.model.proofs.TreeLaws.{elem-left, elem-right, elem-cases, elem-here, elem-head, reach-form}
 use Rattle.model.proofs.Frames.{Goods, Reaches}
 
 -- to stand in a list
 in-occ : (b : ℕ) (xs : List ℕ) → In b xs → 0 < occ b xs
 in-occ b [] h = absurd h
-in-occ b (x ∷ xs) (inl e) = let q : once b x ≡ 1 = ap {B = ℕ} (λ k. cond k 1 0) (eq-eqb b x e) in omega (arith, q)
+in-occ b (x ∷ xs) (inl e) = let q : one x b ≡ 1 = ap {B = ℕ} (λ k. cond k 1 0) (eq-eqb b x e) in omega (arith, q)
 in-occ b (x ∷ xs) (inr h) = let q = in-occ b xs h in omega (arith, q)
 
 occ-in : (b : ℕ) (xs : List ℕ) → 0 < occ b xs → In b xs
 occ-in b [] h = absurd (omega arith)
 occ-in b (x ∷ xs) h =
-    ⊎-elim (λ e. inl e) (λ ne. inr (occ-in b xs (let q : once b x ≡ 0 = ap {B = ℕ} (λ k. cond k 1 0) (ne-eqb b x ne) in omega (arith, q)))) (cases-eq b x)
+    ⊎-elim (λ e. inl e) (λ ne. inr (occ-in b xs (let q : one x b ≡ 0 = ap {B = ℕ} (λ k. cond k 1 0) (ne-eqb b x ne) in omega (arith, q)))) (cases-eq b x)
 
 in-app : (b : ℕ) (xs ys : List ℕ) → In b (xs ++ ys) → In b xs ⊎ In b ys
 in-app b [] ys h = inr h
@@ -191,8 +193,10 @@ same-spare zero b us cs h = refl
 same-spare (suc k) b us cs h = ap₂ (λ (p : Bool) (z : List ℕ). cond p z (b ∷ z)) (h b) (same-spare k (suc b) us cs h)
 
 pub free-by-counts : Free-by-counts
-free-by-counts t m cs S h =
+free-by-counts t m cs S c e =
+    let h = alive-is-reached (blockAt m) cs (rootings t) c in
     same-spare (blocksOf m - 2) 2 (used (shape t m)) cs
       (λ x. same-test (elem x (used (shape t m))) (ltb 0 (getD cs x 0))
-        (λ e. lt-ltb 0 (getD cs x 0) (h x .1 (used-from t m S x (subst T (sym e) tt))))
-        (λ e. to-true (elem x (used (shape t m))) (used-to t m S x (h x .0 (ltb-true 0 (getD cs x 0) e)))))
+        (λ q. lt-ltb 0 (getD cs x 0) (h x .1 (used-from t m S x (subst T (sym q) tt))))
+        (λ q. to-true (elem x (used (shape t m))) (used-to t m S x (h x .0 (ltb-true 0 (getD cs x 0) q)))))
+    ∙ ap (λ n. spare (n - 2) 2 cs) (sym e)

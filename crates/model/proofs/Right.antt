@@ -19,14 +19,14 @@ use Rattle.model.specs.declared.refusal.Refusal.{Refusal}
 use Rattle.model.specs.Plain as plain
 use Rattle.model.specs.Plain.{Map, Maps, Plain, place, has, mapAt, early, answer, Ask, Call, Answer}
 use Rattle.model.specs.Plain.{Ask.create, Ask.clone, Ask.delete, Ask.put, Ask.remove, Ask.get, Ask.at, Ask.rows, Ask.summary, Ask.seal, Call.ask, Call.finish, Call.reopen, Call.mount, Answer.refused}
-use Rattle.model.specs.Forest.{Tree, Form, Deed, Deed.begin, Deed.puts, Deed.takes, form, bareTree, elem, keys, keysOf, rowsOf, raw, Each}
+use Rattle.model.specs.TreeBlocks.{Tree, Form, Change, Change.begin, Change.puts, Change.takes, form, bareTree, elem, keys, keysOf, rowsOf, raw, Each}
 use Rattle.tree.specs.Node.{ins, del}
 use Rattle.tree.specs.Reads.{look}
-use Rattle.model.proofs.Woods.{keys-form}
+use Rattle.model.proofs.TreeLaws.{keys-form}
 use Rattle.model.proofs.Places.{formOf?, rowsOf?, forms-place, maps-place, form-at}
 use Rattle.model.proofs.Grants.{create-rows, put-rows, remove-rows}
-use Rattle.model.specs.Model.{Trees, Model, mapsOf, forms, shapeOf, free, formAt, holds, late, refusal, treeOf, source, sprout, standing, grown, after, next, reply, broken, landed, cutModel}
-use Rattle.model.specs.World.{Mode, Mode.mounted, Mode.sealed, Mode.down, Event, Event.did, Event.broke, Event.lost, Run, Formatted, Step, found, bare, modelOf, trees, shape, Tables, FreeWrite, Grown, Effect, Quiet}
+use Rattle.model.specs.Model.{Trees, Model, mapsOf, forms, shapeOf, free, formAt, holds, late, refusal, treeOf, source, newTree, standing, withChange, after, next, reply, broken, landed, cutModel}
+use Rattle.model.specs.World.{Mode, Mode.mounted, Mode.sealed, Mode.down, Event, Event.did, Event.broke, Event.lost, Run, Formatted, Step, found, bare, modelOf, trees, shape, Tables, FreeWrite, Changed, Effect, Quiet}
 use Rattle.model.specs.Right.{Outcome, fed, plainOf, Shows, Takes, Right, Ends, Onward, OneRun, Histories}
 use Rattle.model.proofs.Histories.{Base, Fine, step-fine, broke-fine, idle-cut, formatted-fine, fine-table}
 use Rattle.model.proofs.TwoRuns.{two-runs}
@@ -81,15 +81,15 @@ fedM M mount = None
 abbrev workingP : Plain → Maps → Plain
 workingP p x = plain.working≔ p x
 
-plain-grown : (M : Model) (n : ℕ) (d : Deed ℕ) (rs : Map) → rowsOf (sprout M n d) ≡ rs → plainM (grown M n d) ≡ workingP (plainM M) (set (mapsOf (M .working)) n (Some rs))
+plain-grown : (M : Model) (n : ℕ) (d : Change ℕ) (rs : Map) → rowsOf (newTree M n d) ≡ rs → plainM (withChange M n d) ≡ workingP (plainM M) (set (mapsOf (M .working)) n (Some rs))
 plain-grown M n d rs e =
-    ap (workingP (plainM M)) (maps-set (M .working) n (standing (sprout M n d)) ∙ ap (λ (x : Map). set (mapsOf (M .working)) n (Some x)) e)
+    ap (workingP (plainM M)) (maps-set (M .working) n (standing (newTree M n d)) ∙ ap (λ (x : Map). set (mapsOf (M .working)) n (Some x)) e)
 
-plain-removed : (M : Model) (n s : ℕ) (k : Bool) (o : Option ℤ) → k ≡ isSome o → (k ≡ true → rowsOf (sprout M n (takes s)) ≡ del s (mapAt (mapsOf (M .working)) n))
-  → plainM (cond k (grown M n (takes s)) M) ≡ elim o as (λ _. Plain) [ Some a ↦ workingP (plainM M) (set (mapsOf (M .working)) n (Some (del s (mapAt (mapsOf (M .working)) n)))) | None ↦ plainM M ]
-plain-removed M n s k None e h = ap (λ x. plainM (cond x (grown M n (takes s)) M)) e
+plain-removed : (M : Model) (n s : ℕ) (k : Bool) (o : Option ℤ) → k ≡ isSome o → (k ≡ true → rowsOf (newTree M n (takes s)) ≡ del s (mapAt (mapsOf (M .working)) n))
+  → plainM (cond k (withChange M n (takes s)) M) ≡ elim o as (λ _. Plain) [ Some a ↦ workingP (plainM M) (set (mapsOf (M .working)) n (Some (del s (mapAt (mapsOf (M .working)) n)))) | None ↦ plainM M ]
+plain-removed M n s k None e h = ap (λ x. plainM (cond x (withChange M n (takes s)) M)) e
 plain-removed M n s k (Some a) e h =
-    ap (λ x. plainM (cond x (grown M n (takes s)) M)) e ∙ plain-grown M n (takes s) (del s (mapAt (mapsOf (M .working)) n)) (h e)
+    ap (λ x. plainM (cond x (withChange M n (takes s)) M)) e ∙ plain-grown M n (takes s) (del s (mapAt (mapsOf (M .working)) n)) (h e)
 
 plain-after : (q : Ask) (t : Tables) (m : Meaning) → Base t m → refusal (shape t m) q ≡ None → plainM (after (modelOf t m) q) ≡ plain.after (plainM (modelOf t m)) q
 plain-after (create n) t m B no′ = plain-grown (modelOf t m) n begin [] (create-rows (modelOf t m) n)
@@ -181,7 +181,7 @@ module _ (V : Type 0) (join : ℕ → Map → V) where
   ask-takes (put n s a) t m os w′ m′ E = E .0
   ask-takes (remove n s) t m os w′ m′ E = go (holds (shape t m) n s) E
     where
-      go : (k : Bool) → cond k (Grown t m n (takes s) os w′ m′) (Quiet (mounted t) os w′) → Each (FreeWrite t m) os
+      go : (k : Bool) → cond k (Changed t m n (takes s) os w′ m′) (Quiet (mounted t) os w′) → Each (FreeWrite t m) os
       go true E = E .0
       go false E = subst (Each (FreeWrite t m)) (sym (E .0)) tt
   ask-takes (get n s) t m os w′ m′ E = E .0

@@ -20,11 +20,11 @@ use Rattle.model.specs.declared.refusal.Refusal.{Refusal}
 use Rattle.model.specs.declared.refusal.Refusal.the-variants.{Number, Speed, Angle, Absent}
 use Rattle.model.specs.Plain.{Map, Maps, place, has, first, early, mapAt, answer, Ask, Call, Answer}
 use Rattle.model.specs.Plain.{Ask.create, Ask.clone, Ask.delete, Ask.put, Ask.remove, Ask.get, Ask.at, Ask.rows, Ask.summary, Ask.seal, Call.ask, Call.finish, Call.reopen, Call.mount, Answer.done, Answer.refused}
-use Rattle.model.specs.Forest.{Tree, Form, Deed, Deed.begin, Deed.puts, Deed.takes, blunt, form, bareTree, raw, rootOf, grow, writes}
+use Rattle.model.specs.TreeBlocks.{Tree, Form, Change, Change.begin, Change.puts, Change.takes, withoutAngle, form, bareTree, raw, rootOf, changedOn, writes}
 use Rattle.model.proofs.Places.{formOf?, rowsOf?, forms-place, maps-place, forms-set, form-at}
-use Rattle.model.proofs.Woods.{grow-form}
+use Rattle.model.proofs.TreeLaws.{grow-form}
 use Rattle.tree.specs.Reads.{look}
-use Rattle.model.specs.Model.{Trees, Forms, Model, Shapes, forms, mapsOf, shapeOf, free, formAt, holds, late, refusal, drained, treeOf, source, sprout, spends, standing, grown, after, next, reply, finished, cutModel, landed, broken, working≔}
+use Rattle.model.specs.Model.{Trees, Forms, Model, Shapes, forms, mapsOf, shapeOf, free, formAt, holds, late, refusal, leftAfter, treeOf, source, newTree, writesFor, standing, withChange, after, next, reply, finished, cutModel, landed, broken, working≔}
 use Rattle.model.specs.World.{Mode, Mode.mounted, Mode.down, Event, Run, Formatted, found, bare, modelOf}
 use Rattle.model.specs.TwoRuns as tw
 use Rattle.model.specs.TwoRuns.{Both, Both.alike, one, two, Legal, Twin, legal, Marks, clear, finishedMarks, touched, sameAngle, markAsk, marked, unless, refusalIn, Unseen, Remain, Every, Finds, Agree, TwoRuns}
@@ -78,12 +78,12 @@ module _ {A : Type 0} where
 abbrev workingS : Shapes → Forms → Shapes
 workingS S x = record { working = x; committed = S .committed; generation = S .generation; blocks = S .blocks; left = S .left; layer = S .layer }
 
-abbrev sourceS : Shapes → ℕ → Deed ℕ → Form
+abbrev sourceS : Shapes → ℕ → Change ℕ → Form
 sourceS S n begin = form bareTree
 sourceS S n (puts s a) = formAt S n
 sourceS S n (takes s) = formAt S n
 
-form-source : (M : Model) (n : ℕ) (d : Deed ℕ) → form (source M n d) ≡ sourceS (shapeOf M) n d
+form-source : (M : Model) (n : ℕ) (d : Change ℕ) → form (source M n d) ≡ sourceS (shapeOf M) n d
 form-source M n begin = refl
 form-source M n (puts s a) = form-at M n
 form-source M n (takes s) = form-at M n
@@ -97,43 +97,43 @@ record Rel (μ : Marks) (M N : Model) : Type 0 where
 abbrev stands : Form → Option (Root × Form)
 stands f = Some (rootOf f, f)
 
-abbrev bent : Shapes → ℕ → Deed ℕ → Shapes
+abbrev bent : Shapes → ℕ → Change ℕ → Shapes
 bent S n d = record {
-  working = set (S .working) n (stands (grow (Unit {0}) (blunt d) (free S) (sourceS S n d)));
+  working = set (S .working) n (stands (changedOn (Unit {0}) (withoutAngle d) (free S) (sourceS S n d)));
   committed = S .committed; generation = S .generation; blocks = S .blocks;
-  left = drained (writes (blunt d) (sourceS S n d)) (S .left); layer = S .layer }
+  left = leftAfter (writes (withoutAngle d) (sourceS S n d)) (S .left); layer = S .layer }
 
-shape-grown : (M : Model) (n : ℕ) (d : Deed ℕ) → shapeOf (grown M n d) ≡ bent (shapeOf M) n d
+shape-grown : (M : Model) (n : ℕ) (d : Change ℕ) → shapeOf (withChange M n d) ≡ bent (shapeOf M) n d
 shape-grown M n d =
     let S : Shapes = shapeOf M in
     let f : List ℕ = free S in
     let t : Tree = source M n d in
-    let e : formOf? (standing (sprout M n d)) ≡ stands (grow (Unit {0}) (blunt d) f (sourceS S n d))
-          = ap stands (grow-form d f t) ∙ ap (λ x. stands (grow (Unit {0}) (blunt d) f x)) (form-source M n d) in
-    let ew : forms (set (M .working) n (standing (sprout M n d))) ≡ set (forms (M .working)) n (stands (grow (Unit {0}) (blunt d) f (sourceS S n d)))
-          = forms-set (M .working) n (standing (sprout M n d)) ∙ ap (λ x. set (forms (M .working)) n x) e in
+    let e : formOf? (standing (newTree M n d)) ≡ stands (changedOn (Unit {0}) (withoutAngle d) f (sourceS S n d))
+          = ap stands (grow-form d f t) ∙ ap (λ x. stands (changedOn (Unit {0}) (withoutAngle d) f x)) (form-source M n d) in
+    let ew : forms (set (M .working) n (standing (newTree M n d))) ≡ set (forms (M .working)) n (stands (changedOn (Unit {0}) (withoutAngle d) f (sourceS S n d)))
+          = forms-set (M .working) n (standing (newTree M n d)) ∙ ap (λ x. set (forms (M .working)) n x) e in
     λ i. record {
       working = ew i; committed = forms (M .committed); generation = M .generation; blocks = M .blocks;
-      left = drained (writes (blunt d) (form-source M n d i)) (M .left); layer = M .layer }
+      left = leftAfter (writes (withoutAngle d) (form-source M n d i)) (M .left); layer = M .layer }
 
 -- the same tree from the same shape and the same tree
 tree-same : (M N : Model) (n : ℕ) → place (M .working) n ≡ place (N .working) n → treeOf M n ≡ treeOf N n
 tree-same M N n e = ap (λ o. elim o as (λ _. Tree) [ Some x ↦ x .1 | None ↦ bareTree ]) e
 
-source-same : (d : Deed ℕ) (M N : Model) (n : ℕ) → place (M .working) n ≡ place (N .working) n → source M n d ≡ source N n d
+source-same : (d : Change ℕ) (M N : Model) (n : ℕ) → place (M .working) n ≡ place (N .working) n → source M n d ≡ source N n d
 source-same begin M N n e = refl
 source-same (puts s a) M N n e = tree-same M N n e
 source-same (takes s) M N n e = tree-same M N n e
 
-grow-same : (d : Deed ℕ) (M N : Model) (n : ℕ) → shapeOf M ≡ shapeOf N → source M n d ≡ source N n d
-  → standing (sprout M n d) ≡ standing (sprout N n d)
-grow-same d M N n es et = ap₂ (λ (S : Shapes) (t : Tree). standing (grow ℕ d (free S) t)) es et
+grow-same : (d : Change ℕ) (M N : Model) (n : ℕ) → shapeOf M ≡ shapeOf N → source M n d ≡ source N n d
+  → standing (newTree M n d) ≡ standing (newTree N n d)
+grow-same d M N n es et = ap₂ (λ (S : Shapes) (t : Tree). standing (changedOn ℕ d (free S) t)) es et
 
 -- the deeds are alike: the same, or puts of one speed
-grown-shapes : (M N : Model) (n : ℕ) (d e : Deed ℕ) → bent (shapeOf N) n d ≡ bent (shapeOf N) n e → shapeOf M ≡ shapeOf N → shapeOf (grown M n d) ≡ shapeOf (grown N n e)
+grown-shapes : (M N : Model) (n : ℕ) (d e : Change ℕ) → bent (shapeOf N) n d ≡ bent (shapeOf N) n e → shapeOf M ≡ shapeOf N → shapeOf (withChange M n d) ≡ shapeOf (withChange N n e)
 grown-shapes M N n d e q es = shape-grown M n d ∙ ap (λ S. bent S n d) es ∙ q ∙ sym (shape-grown N n e)
 
-rel-put : (d : Deed ℕ) (μ : Marks) (M N : Model) (n : ℕ) → Rel μ M N → Rel μ (grown M n d) (grown N n d)
+rel-put : (d : Change ℕ) (μ : Marks) (M N : Model) (n : ℕ) → Rel μ M N → Rel μ (withChange M n d) (withChange N n d)
 rel-put d μ M N n R = record {
   shapes = grown-shapes M N n d d refl (R .shapes);
   working = agreeing-put (μ .working) (M .working) (N .working) n _ _ (R .working)
@@ -141,7 +141,7 @@ rel-put d μ M N n R = record {
   committed = R .committed;
   counts = R .counts }
 
-rel-create : (μ : Marks) (M N : Model) (n : ℕ) → Rel μ M N → Rel (tw.working≔ μ (set (μ .working) n false)) (grown M n begin) (grown N n begin)
+rel-create : (μ : Marks) (M N : Model) (n : ℕ) → Rel μ M N → Rel (tw.working≔ μ (set (μ .working) n false)) (withChange M n begin) (withChange N n begin)
 rel-create μ M N n R = record {
   shapes = grown-shapes M N n begin begin refl (R .shapes);
   working = agreeing-set (μ .working) (M .working) (N .working) n false _ _ (R .working) (λ z. grow-same begin M N n (R .shapes) refl);
@@ -180,10 +180,10 @@ holds-same M N n s e = ap (λ S. holds S n s) e
 form-place-same : (M N : Model) (n : ℕ) → shapeOf M ≡ shapeOf N → formOf? (place (M .working) n) ≡ formOf? (place (N .working) n)
 form-place-same M N n e = sym (forms-place (M .working) n) ∙ ap (λ S. place (S .working) n) e ∙ forms-place (N .working) n
 
-rel-remove : (k l : Bool) (μ : Marks) (M N : Model) (n s : ℕ) → k ≡ l → Rel μ M N → Rel μ (cond k (grown M n (takes s)) M) (cond l (grown N n (takes s)) N)
-rel-remove k l μ M N n s e R = subst (λ x. Rel μ (cond k (grown M n (takes s)) M) (cond x (grown N n (takes s)) N)) e (go k)
+rel-remove : (k l : Bool) (μ : Marks) (M N : Model) (n s : ℕ) → k ≡ l → Rel μ M N → Rel μ (cond k (withChange M n (takes s)) M) (cond l (withChange N n (takes s)) N)
+rel-remove k l μ M N n s e R = subst (λ x. Rel μ (cond k (withChange M n (takes s)) M) (cond x (withChange N n (takes s)) N)) e (go k)
   where
-    go : (k : Bool) → Rel μ (cond k (grown M n (takes s)) M) (cond k (grown N n (takes s)) N)
+    go : (k : Bool) → Rel μ (cond k (withChange M n (takes s)) M) (cond k (withChange N n (takes s)) N)
     go true = rel-put (takes s) μ M N n R
     go false = R
 
@@ -211,13 +211,13 @@ or-false true l e = (refl, e)
 or-false false l e = absurd (subst T e tt)
 
 -- a put of two angles
-rel-puts : (μ : Marks) (M N : Model) (n s : ℕ) (a b : ℤ) → Rel μ M N → Rel (marked μ (tw.puts n s a b)) (grown M n (puts s (raw a))) (grown N n (puts s (raw b)))
+rel-puts : (μ : Marks) (M N : Model) (n s : ℕ) (a b : ℤ) → Rel μ M N → Rel (marked μ (tw.puts n s a b)) (withChange M n (puts s (raw a))) (withChange N n (puts s (raw b)))
 rel-puts μ M N n s a b R = record {
   shapes = grown-shapes M N n (puts s (raw a)) (puts s (raw b)) refl (R .shapes);
   working = agreeing-set (μ .working) (M .working) (N .working) n (not (sameAngle a b) || touched μ n) _ _ (R .working)
     (λ z. let h = or-false (sameAngle a b) (touched μ n) z in
           grow-same (puts s (raw a)) M N n (R .shapes) (tree-same M N n (agreeing-at (μ .working) (M .working) (N .working) n (R .working) (h .1)))
-            ∙ ap (λ x. standing (grow ℕ (puts s (raw x)) (free (shapeOf N)) (treeOf N n))) (same-angle a b (h .0)));
+            ∙ ap (λ x. standing (changedOn ℕ (puts s (raw x)) (free (shapeOf N)) (treeOf N n))) (same-angle a b (h .0)));
   committed = R .committed;
   counts = R .counts }
 

@@ -19,7 +19,7 @@ use Rattle.tree.specs.Tree.{Pay, Rows, rows, All, Enough}
 use Rattle.tree.specs.Layout.{next, Ascends, Start, Child, Laid}
 use Rattle.tree.proofs.Over.{map-length}
 use Rattle.page.specs.Block.{blockIn}
-use Rattle.model.specs.Forest.{Tree, entriesIn, payAt, topLevel, treeAt, payload, blockOf, Stored, Each, Fit, Good, AllGood}
+use Rattle.model.specs.TreeBlocks.{Tree, entriesIn, payAt, topLevel, treeAt, payload, blockOf, Stored, Each, Fit, Good, AllGood}
 use Rattle.model.specs.Walk.{Fault, ascending, starts, payable, least, wellMade, among, ifMade, inBlock, inContent, faultBelow, faultAt, faultOf, pairWith, walk, Walk-exact}
 
 abbrev IsNone : {A : Type 0} → Option A → Type 0

@@ -18,7 +18,7 @@ use Rattle.model.specs.Plain.{Map, Maps, Ask, Call, Answer, place, has, first,
 use Rattle.model.specs.Plain.{Ask.create, Ask.clone, Ask.delete, Ask.put, Ask.remove, Ask.get, Ask.at, Ask.rows, Ask.summary, Ask.seal, Call.ask, Call.finish, Call.reopen, Call.mount}
 use Rattle.model.specs.Plain.{Answer.done, Answer.refused}
 use Rattle.page.specs.Slot.{Root, Table}
-use Rattle.model.specs.Forest.{Tree, Form, Deed, Deed.begin, Deed.puts, Deed.takes, blunt, form, bareTree, elem, raw, rowsOf, keysOf, reach, rootOf, grow, writes}
+use Rattle.model.specs.TreeBlocks.{Tree, Form, Change, Change.begin, Change.puts, Change.takes, withoutAngle, form, bareTree, elem, raw, rowsOf, keysOf, reach, rootOf, changedOn, writes}
 
 abbrev pub Trees : Type 0
 Trees = List (Option (Root × Tree))
@@ -101,9 +101,9 @@ late S (summary k n) = None
 abbrev pub refusal : Shapes → Ask → Option Refusal
 refusal S q = orOther (early (has (S .working)) q) (late S q)
 
-abbrev pub drained : ℕ → ℕ → ℕ
-drained zero n = n
-drained (suc k) n = drained k (spent n)
+abbrev pub leftAfter : ℕ → ℕ → ℕ
+leftAfter zero n = n
+leftAfter (suc k) n = leftAfter k (spent n)
 
 abbrev pub treeOf : Model → ℕ → Tree
 treeOf M n = elim (place (M .working) n) [ Some x ↦ x .1 | None ↦ bareTree ]
@@ -132,35 +132,35 @@ broken M reopen k κ = M
 broken M mount k κ = M
 
 -- the tree that a deed starts from
-abbrev pub source : Model → ℕ → Deed ℕ → Tree
+abbrev pub source : Model → ℕ → Change ℕ → Tree
 source M n begin = bareTree
 source M n (puts s a) = treeOf M n
 source M n (takes s) = treeOf M n
 
 -- the new tree, on the lowest free blocks
-abbrev pub sprout : Model → ℕ → Deed ℕ → Tree
-sprout M n d = grow ℕ d (free (shapeOf M)) (source M n d)
+abbrev pub newTree : Model → ℕ → Change ℕ → Tree
+newTree M n d = changedOn ℕ d (free (shapeOf M)) (source M n d)
 
 -- how many blocks it writes
-abbrev pub spends : Model → ℕ → Deed ℕ → ℕ
-spends M n d = writes (blunt d) (form (source M n d))
+abbrev pub writesFor : Model → ℕ → Change ℕ → ℕ
+writesFor M n d = writes (withoutAngle d) (form (source M n d))
 
 abbrev pub standing : Tree → Option (Root × Tree)
 standing u = Some (rootOf u, u)
 
-abbrev pub grown : Model → ℕ → Deed ℕ → Model
-grown M n d = record {
-  working = set (M .working) n (standing (sprout M n d));
+abbrev pub withChange : Model → ℕ → Change ℕ → Model
+withChange M n d = record {
+  working = set (M .working) n (standing (newTree M n d));
   committed = M .committed; generation = M .generation; blocks = M .blocks;
-  left = drained (spends M n d) (M .left); layer = M .layer }
+  left = leftAfter (writesFor M n d) (M .left); layer = M .layer }
 
 -- an accepted call
 abbrev pub after : Model → Ask → Model
-after M (create n) = grown M n begin
+after M (create n) = withChange M n begin
 after M (clone f n) = working≔ M (set (M .working) n (place (M .working) f))
 after M (delete n) = working≔ M (set (M .working) n None)
-after M (put n s a) = grown M n (puts s (raw a))
-after M (remove n s) = cond (holds (shapeOf M) n s) (grown M n (takes s)) M
+after M (put n s a) = withChange M n (puts s (raw a))
+after M (remove n s) = cond (holds (shapeOf M) n s) (withChange M n (takes s)) M
 after M (get n s) = M
 after M (at n s) = M
 after M (rows n s k) = M

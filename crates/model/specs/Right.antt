@@ -14,7 +14,7 @@ use Rattle.device.specs.Cuts.{Op, Op.write, Op.flush, Cutting, cut, replay}
 use Rattle.page.specs.Slot.{Table, slotWords}
 use Rattle.model.specs.declared.refusal.Refusal.{Refusal}
 use Rattle.model.specs.Plain.{Map, Call, Answer, Plain, Call.ask, Call.finish, Call.reopen, Call.mount, Ask.create, Ask.clone, Ask.delete, Ask.put, Ask.remove, Ask.get, Ask.at, Ask.rows, Ask.summary, Ask.seal, start, next, reply, finished}
-use Rattle.model.specs.Forest.{Each}
+use Rattle.model.specs.TreeBlocks.{Each}
 use Rattle.model.specs.Model.{mapsOf, late}
 use Rattle.model.specs.World.{Tables, Mode, Mode.mounted, Mode.sealed, Mode.down, Event, Event.did, Event.broke, Event.lost, Run, Formatted, found, bare, trees, shape, FreeWrite}
 use Rattle.model.specs.TwoRuns.{TwoRuns}

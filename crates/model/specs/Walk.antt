@@ -13,7 +13,7 @@ use Rattle.device.specs.Meaning.{Content, Content.words, Content.damaged}
 use Rattle.page.specs.Block.{Block, decode}
 use Rattle.page.specs.Slot.{Root, Table, every, rooted}
 use Rattle.tree.specs.Layout.{next}
-use Rattle.model.specs.Forest.{Good, AllGood, topLevel}
+use Rattle.model.specs.TreeBlocks.{Good, AllGood, topLevel}
 
 pub data Fault : Type 0 where
   Damage : ℕ → LayerMark → Fault

@@ -15,14 +15,15 @@ use Rattle.std.specs.declared.result.Result.the-variants.{Ok, Err}
 use Rattle.device.specs.Meaning.{Content, Content.words, Content.damaged, Meaning, blocksOf, currentAt}
 use Rattle.device.specs.Cuts.{Op, Op.write, Op.flush, Cutting, apply, replay, cut, cellAt}
 use Rattle.page.specs.Slot.{Root, Table, slotWords, slotRead}
+use Rattle.counts.specs.Counts.{occ}
 use Rattle.model.specs.declared.refusal.Refusal.{Refusal}
 use Rattle.model.specs.declared.refusal.Refusal.the-variants.{NoVolume, Shape, Damaged, Malformed}
 use Rattle.model.specs.Plain.{Map, Ask, Call, Answer, place, answer, blank}
 use Rattle.model.specs.Plain.{Ask.create, Ask.clone, Ask.delete, Ask.put, Ask.remove, Ask.get, Ask.at, Ask.rows, Ask.summary, Ask.seal, Call.ask, Call.finish, Call.reopen, Call.mount}
 use Rattle.model.specs.Plain.{Answer.done, Answer.refused}
-use Rattle.model.specs.Forest.{Tree, Deed, Deed.begin, Deed.puts, Deed.takes, blunt, form, elem, raw, treeAt, Stored, rootOf, Each, occ, newBlocks}
+use Rattle.model.specs.TreeBlocks.{Tree, Change, Change.begin, Change.puts, Change.takes, withoutAngle, form, elem, raw, treeAt, Stored, rootOf, Each, newBlocks}
 use Rattle.model.specs.Walk.{Fault, Fault.Damage, Fault.Malform, walk}
-use Rattle.model.specs.Model.{Trees, Model, Shapes, shapeOf, mapsOf, refusal, free, used, holds, treeOf, source, sprout, spends, next, reply, broken, cutModel}
+use Rattle.model.specs.Model.{Trees, Model, Shapes, shapeOf, mapsOf, refusal, free, used, holds, treeOf, source, newTree, writesFor, next, reply, broken, cutModel}
 
 pub record Tables : Type 0 where
   pub working : Table
@@ -98,20 +99,20 @@ targets (write b ws ∷ os) = b ∷ targets os
 targets (flush ∷ os) = targets os
 
 -- clone n has the new tree, which stands on the device; only its new blocks are written, each once, and they were free
-abbrev pub Grown : Tables → Meaning → ℕ → Deed ℕ → List Op → Mode → Meaning → Type 0
-Grown t m n d os w′ m′ =
+abbrev pub Changed : Tables → Meaning → ℕ → Change ℕ → List Op → Mode → Meaning → Type 0
+Changed t m n d os w′ m′ =
     Each (FreeWrite t m) os
       × ((b : ℕ) → occ b (targets os) ≡ occ b (newBlocks d (free (shape t m)) (source (modelOf t m) n d)))
-      × (w′ ≡ mounted (placed t (set (t .working) n (Some (rootOf (sprout (modelOf t m) n d))))))
-      × Stored (currentAt m′) (sprout (modelOf t m) n d)
+      × (w′ ≡ mounted (placed t (set (t .working) n (Some (rootOf (newTree (modelOf t m) n d))))))
+      × Stored (currentAt m′) (newTree (modelOf t m) n d)
 
 -- an accepted call
 abbrev pub Effect : Tables → Meaning → Ask → List Op → Mode → Meaning → Type 0
-Effect t m (create n) os w′ m′ = Grown t m n begin os w′ m′
+Effect t m (create n) os w′ m′ = Changed t m n begin os w′ m′
 Effect t m (clone f n) os w′ m′ = Quiet (mounted (placed t (set (t .working) n (place (t .working) f)))) os w′
 Effect t m (delete n) os w′ m′ = Quiet (mounted (placed t (set (t .working) n None))) os w′
-Effect t m (put n s a) os w′ m′ = Grown t m n (puts s (raw a)) os w′ m′
-Effect t m (remove n s) os w′ m′ = cond (holds (shape t m) n s) (Grown t m n (takes s) os w′ m′) (Quiet (mounted t) os w′)
+Effect t m (put n s a) os w′ m′ = Changed t m n (puts s (raw a)) os w′ m′
+Effect t m (remove n s) os w′ m′ = cond (holds (shape t m) n s) (Changed t m n (takes s) os w′ m′) (Quiet (mounted t) os w′)
 Effect t m (get n s) os w′ m′ = Quiet (mounted t) os w′
 Effect t m (at n s) os w′ m′ = Quiet (mounted t) os w′
 Effect t m (rows n s k) os w′ m′ = Quiet (mounted t) os w′

@@ -29,15 +29,16 @@ use Rattle.tree.proofs.Kept.{kept}
 use Rattle.tree.proofs.Over.{map-length}
 use Rattle.tree.proofs.Apart.{below, places-apart}
 use Rattle.page.specs.Block.{blockIn}
-use Rattle.model.specs.Forest.{Tree, elem, Deed, Deed.begin, Deed.puts, Deed.takes, changed, grow, newBlocks, payload, blockOf, Stored, Each, Fit}
+use Rattle.counts.specs.Counts.{occ}
+use Rattle.model.specs.TreeBlocks.{Tree, elem, Change, Change.begin, Change.puts, Change.takes, changed, changedOn, newBlocks, payload, blockOf, Stored, Each, Fit}
 use Rattle.tree.proofs.Puts.{five-high}
 use Rattle.tree.proofs.Laid.{same-rule}
 use lib.ListN.{set}
-use Rattle.model.specs.Forest.{rootOf, occ}
-use Rattle.model.specs.Model.{unused, used, free, source, sprout}
-use Rattle.model.specs.World.{Tables, Mode, Mode.mounted, placed, modelOf, shape, FreeWrite, Grown, targets}
+use Rattle.model.specs.TreeBlocks.{rootOf}
+use Rattle.model.specs.Model.{unused, used, free, source, newTree}
+use Rattle.model.specs.World.{Tables, Mode, Mode.mounted, placed, modelOf, shape, FreeWrite, Changed, targets}
 use Rattle.model.proofs.Walks.{Angles, rows-angles}
-use Rattle.model.proofs.Woods.{needed, changed-low}
+use Rattle.model.proofs.TreeLaws.{needed, changed-low}
 use Rattle.model.proofs.Grants.{unused-each, free-each, sizes-parts}
 use Rattle.model.proofs.Histories.{Base, keeps-free}
 
@@ -154,17 +155,17 @@ module _ (pick : ℕ → ℕ) where
         go ih [] a = tt
         go ih (e ∷ r) a = (ih (e .1) (a .0), go ih r (a .1))
 
-    abbrev pub Ready : Deed ℕ → Tree → Type 0
+    abbrev pub Ready : Change ℕ → Tree → Type 0
     Ready begin t = Unit {0}
     Ready (puts s a) t = Stored c t
     Ready (takes s) t = Stored c t
 
-    was-changed : (d : Deed ℕ) (t : Tree) → Ready d t → All Ot ℕ Q (suc (changed ℕ d t .0)) (changed ℕ d t .1)
+    was-changed : (d : Change ℕ) (t : Tree) → Ready d t → All Ot ℕ Q (suc (changed ℕ d t .0)) (changed ℕ d t .1)
     was-changed begin t a = (tt, tt)
     was-changed (puts s x) t a = kept Ot ℕ None Q (λ l es. tt) s x (overRoot Some same t) (was-old (suc (t .0)) (t .1) a) .0
     was-changed (takes s) t a = kept Ot ℕ None Q (λ l es. tt) s 0 (overRoot Some same t) (was-old (suc (t .0)) (t .1) a) .1
 
-    pub stands : (d : Deed ℕ) (t : Tree) → Ready d t → Each R (fresh (changed ℕ d t)) → Stored c (numbered ℕ pick (changed ℕ d t))
+    pub stands : (d : Change ℕ) (t : Tree) → Ready d t → Each R (fresh (changed ℕ d t)) → Stored c (numbered ℕ pick (changed ℕ d t))
     stands d t a b = let r : tree.Root Ot ℕ = changed ℕ d t in stand-root (r .0) (r .1 .0) (r .1 .1) (was-changed d t a) b
 
   -- what holds of each block of the tree holds of the new ones
@@ -311,7 +312,7 @@ places-low l None es p (inl e) = omega arith
 places-low l None es p (inr h) = let q = below ℕ l es p h in omega arith
 places-low l (Some b) es p h = let q = below ℕ l es p h in omega arith
 
-changed-apart : (d : Deed ℕ) (t : Tree) → Distinct (places ℕ (changed ℕ d t))
+changed-apart : (d : Change ℕ) (t : Tree) → Distinct (places ℕ (changed ℕ d t))
 changed-apart begin t = ((λ z. z), tt)
 changed-apart (puts s a) t = places-apart ℕ s t .0 a
 changed-apart (takes s) t = places-apart ℕ s t .1
@@ -329,7 +330,7 @@ decoded w c [] a b = tt
 decoded w c (y ∷ ys) a b = (ap blockIn (a .0) ∙ back w (y .1) (b .0), decoded w c ys (a .1) (b .1))
 
 -- a deed can be done
-module _ (t : Tables) (m : Meaning) (B : Base t m) (n : ℕ) (d : Deed ℕ) where
+module _ (t : Tables) (m : Meaning) (B : Base t m) (n : ℕ) (d : Change ℕ) where
   abbrev src : Tree
   src = source (modelOf t m) n d
 
@@ -355,9 +356,9 @@ module _ (t : Tables) (m : Meaning) (B : Base t m) (n : ℕ) (d : Deed ℕ) wher
   firsts-are : firsts-of ys ≡ newBlocks d fs src
   firsts-are = fresh-firsts (λ i. getD fs i 0) (changed ℕ d src)
 
-  pub met : needed d src ≤ length fs → Fit (blocksOf m) (sprout (modelOf t m) n d) → ((c : ℕ → Content) → ((b : ℕ) → T (elem b (0 ∷ 1 ∷ used (shape t m))) → c b ≡ currentAt m b) → Ready (λ i. getD fs i 0) c d src)
-    → Grown t m n d script (mounted (placed t (set (t .working) n (Some (rootOf (sprout (modelOf t m) n d)))))) (replay script m)
-  unfolding grow
+  pub met : needed d src ≤ length fs → Fit (blocksOf m) (newTree (modelOf t m) n d) → ((c : ℕ → Content) → ((b : ℕ) → T (elem b (0 ∷ 1 ∷ used (shape t m))) → c b ≡ currentAt m b) → Ready (λ i. getD fs i 0) c d src)
+    → Changed t m n d script (mounted (placed t (set (t .working) n (Some (rootOf (newTree (modelOf t m) n d)))))) (replay script m)
+  unfolding changedOn
   met room F ready =
       let r : tree.Root Ot ℕ = changed ℕ d src in
       let low : (p : ℕ) → In p (places ℕ r) → p < length fs = λ p h. (let q = places-low (r .0) (r .1 .0) (r .1 .1) p h in let k = changed-low ℕ d src in omega arith) in
@@ -370,7 +371,7 @@ module _ (t : Tables) (m : Meaning) (B : Base t m) (n : ℕ) (d : Deed ℕ) wher
       let sz = sizes-parts (blocksOf m) (m .width) (B .kept .sized) in
       let laid : Each (λ (y : ℕ × Block). Layout (m .width) (y .1)) ys
             = fresh-keep (λ i. getD fs i 0) (λ l v. Layout (m .width) (blockOf l v)) (λ (y : ℕ × Block). Layout (m .width) (y .1)) (λ l v z. z) (r .0) (r .1 .0) (r .1 .1)
-                (fit-layouts (blocksOf m) (m .width) (sz .1) (sz .2) (sprout (modelOf t m) n d) F) in
+                (fit-layouts (blocksOf m) (m .width) (sz .1) (sz .2) (newTree (modelOf t m) n d) F) in
       (frees,
        (λ b. ap (occ b) (targets-ops (m .width) ys ∙ firsts-are)),
        refl,

@@ -65,42 +65,34 @@ abbrev pub rootOf : {P : Type 0} → tree.Root ℕ P → Root
 rootOf t = (suc (t .0), t .1 .0)
 
 -- What makes a new tree: of create, put and remove.
-pub data Deed (P : Type 0) : Type 0 where
-  begin : Deed P
-  puts : ℕ → P → Deed P
-  takes : ℕ → Deed P
+pub data Change (P : Type 0) : Type 0 where
+  begin : Change P
+  puts : ℕ → P → Change P
+  takes : ℕ → Change P
 
 -- without the angle
-abbrev pub blunt : Deed ℕ → Deed (Unit {0})
-blunt begin = begin
-blunt (puts s a) = puts s tt
-blunt (takes s) = takes s
+abbrev pub withoutAngle : Change ℕ → Change (Unit {0})
+withoutAngle begin = begin
+withoutAngle (puts s a) = puts s tt
+withoutAngle (takes s) = takes s
 
 -- the tree that comes of it, its new blocks not yet numbered
-abbrev pub changed : (P : Type 0) → Deed P → tree.Root ℕ P → tree.Root (Option ℕ) P
+abbrev pub changed : (P : Type 0) → Change P → tree.Root ℕ P → tree.Root (Option ℕ) P
 changed P begin t = (0, (None, []))
 changed P (puts s a) t = putRoot (Option ℕ) P None s a (overRoot Some same t)
 changed P (takes s) t = remRoot (Option ℕ) P None s (overRoot Some same t)
 
 -- on these free blocks, ascending
-unfoldable pub grow : (P : Type 0) → Deed P → List ℕ → tree.Root ℕ P → tree.Root ℕ P
-grow P d free t = numbered P (λ i. getD free i 0) (changed P d t)
+unfoldable pub changedOn : (P : Type 0) → Change P → List ℕ → tree.Root ℕ P → tree.Root ℕ P
+changedOn P d free t = numbered P (λ i. getD free i 0) (changed P d t)
 
 -- how many blocks it writes
-unfoldable pub writes : Deed (Unit {0}) → Form → ℕ
+unfoldable pub writes : Change (Unit {0}) → Form → ℕ
 writes d f = news (Unit {0}) (changed (Unit {0}) d f)
 
 -- the free blocks that its new blocks take
-abbrev pub newBlocks : Deed ℕ → List ℕ → Tree → List ℕ
+abbrev pub newBlocks : Change ℕ → List ℕ → Tree → List ℕ
 newBlocks d free t = map (λ i. getD free i 0) (places ℕ (changed ℕ d t))
-
-abbrev pub once : ℕ → ℕ → ℕ
-once b x = cond (eqb b x) 1 0
-
--- how often b stands in a list
-abbrev pub occ : ℕ → List ℕ → ℕ
-occ b [] = 0
-occ b (x ∷ xs) = once b x + occ b xs
 
 -- Blocks on the device.
 abbrev pub entriesIn : Option Block → List (ℕ × ℕ)

@@ -29,7 +29,7 @@ use Rattle.tree.proofs.Removes.{remove-sound}
 use Rattle.tree.proofs.Numbering.{shape-kept, numbers-natural, numbers-from, overRoot-twice}
 use Rattle.table.specs.Rows.{offAngle}
 use Rattle.page.specs.Block.{blockIn}
-use Rattle.model.specs.Forest.{Tree, Form, form, bareTree, raw, angle, rowsOf, keys, keysOf, reach, elem, rootOf, Deed, Deed.begin, Deed.puts, Deed.takes, blunt, changed, grow, writes, entriesIn, payAt, topLevel, treeAt, payload, blockOf, Stored, Each, Fit, Good, AllGood}
+use Rattle.model.specs.TreeBlocks.{Tree, Form, form, bareTree, raw, angle, rowsOf, keys, keysOf, reach, elem, rootOf, Change, Change.begin, Change.puts, Change.takes, withoutAngle, changed, changedOn, writes, entriesIn, payAt, topLevel, treeAt, payload, blockOf, Stored, Each, Fit, Good, AllGood}
 
 -- membership
 pub elem-left : (b : ℕ) (xs ys : List ℕ) → T (elem b xs) → T (elem b (xs ++ ys))
@@ -164,17 +164,17 @@ module _ (P : Type 0) (pick : ℕ → ℕ) (r : tree.Root (Option ℕ) P) where
       ∙ map-same (rows (Option ℕ) P (r .0) (r .1))
 
 -- what the deed does to plain rows
-abbrev pub done : {P : Type 0} → Deed P → List (ℕ × P) → List (ℕ × P)
+abbrev pub done : {P : Type 0} → Change P → List (ℕ × P) → List (ℕ × P)
 done begin rs = []
 done (puts s a) rs = ins s a rs
 done (takes s) rs = del s rs
 
-abbrev pub Allowed : Deed ℕ → Type 0
+abbrev pub Allowed : Change ℕ → Type 0
 Allowed begin = Unit
 Allowed (puts s a) = (s < 10000) × (a ≤ 18000)
 Allowed (takes s) = s < 10000
 
-changed-sound : (d : Deed ℕ) (t : Tree) → Allowed d → Wf ℕ ℕ (t .0) (t .1)
+changed-sound : (d : Change ℕ) (t : Tree) → Allowed d → Wf ℕ ℕ (t .0) (t .1)
     → Wf (Option ℕ) ℕ (changed ℕ d t .0) (changed ℕ d t .1) × (rows (Option ℕ) ℕ (changed ℕ d t .0) (changed ℕ d t .1) ≡ done d (rows ℕ ℕ (t .0) (t .1)))
 changed-sound begin t h w = ((omega arith, tt, omega arith), refl)
 changed-sound (puts s a) t h w =
@@ -186,16 +186,16 @@ changed-sound (takes s) t h w =
     let S = remove-sound (Option ℕ) ℕ None s (overRoot Some same t) h (v .1 w) in
     (S .0, S .1 ∙ ap (del s) (v .0 ∙ map-same (rows ℕ ℕ (t .0) (t .1))))
 
-pub grow-wf : (d : Deed ℕ) (f : List ℕ) (t : Tree) → Allowed d → Wf ℕ ℕ (t .0) (t .1) → Wf ℕ ℕ (grow ℕ d f t .0) (grow ℕ d f t .1)
-unfolding grow
+pub grow-wf : (d : Change ℕ) (f : List ℕ) (t : Tree) → Allowed d → Wf ℕ ℕ (t .0) (t .1) → Wf ℕ ℕ (changedOn ℕ d f t .0) (changedOn ℕ d f t .1)
+unfolding changedOn
 grow-wf d f t h w = number-wf ℕ (λ i. getD f i 0) (changed ℕ d t) (changed-sound d t h w .0)
 
-pub grow-rows : (d : Deed ℕ) (f : List ℕ) (t : Tree) → Allowed d → Wf ℕ ℕ (t .0) (t .1) → rows ℕ ℕ (grow ℕ d f t .0) (grow ℕ d f t .1) ≡ done d (rows ℕ ℕ (t .0) (t .1))
-unfolding grow
+pub grow-rows : (d : Change ℕ) (f : List ℕ) (t : Tree) → Allowed d → Wf ℕ ℕ (t .0) (t .1) → rows ℕ ℕ (changedOn ℕ d f t .0) (changedOn ℕ d f t .1) ≡ done d (rows ℕ ℕ (t .0) (t .1))
+unfolding changedOn
 grow-rows d f t h w = number-rows ℕ (λ i. getD f i 0) (changed ℕ d t) ∙ changed-sound d t h w .1
 
 -- neither blocks nor shape depend on an angle
-changed-form : (d : Deed ℕ) (t : Tree) → overRoot same bare (changed ℕ d t) ≡ changed (Unit {0}) (blunt d) (form t)
+changed-form : (d : Change ℕ) (t : Tree) → overRoot same bare (changed ℕ d t) ≡ changed (Unit {0}) (withoutAngle d) (form t)
 changed-form begin t = refl
 changed-form (puts s a) t =
     natural (Option ℕ) ℕ (Option ℕ) (Unit {0}) same bare None s a (overRoot Some same t) .0
@@ -204,8 +204,8 @@ changed-form (takes s) t =
     natural (Option ℕ) ℕ (Option ℕ) (Unit {0}) same bare None s 0 (overRoot Some same t) .1
     ∙ ap (remRoot (Option ℕ) (Unit {0}) None s) (overRoot-twice {M = ℕ} {P = ℕ} Some same same bare t ∙ sym (overRoot-twice {M = ℕ} {P = ℕ} same bare Some same t))
 
-pub grow-form : (d : Deed ℕ) (f : List ℕ) (t : Tree) → form (grow ℕ d f t) ≡ grow (Unit {0}) (blunt d) f (form t)
-unfolding grow
+pub grow-form : (d : Change ℕ) (f : List ℕ) (t : Tree) → form (changedOn ℕ d f t) ≡ changedOn (Unit {0}) (withoutAngle d) f (form t)
+unfolding changedOn
 grow-form d f t = numbers-natural ℕ (Unit {0}) (λ i. getD f i 0) bare (changed ℕ d t) ∙ ap (numbered (Unit {0}) (λ i. getD f i 0)) (changed-form d t)
 
 -- heights
@@ -222,12 +222,12 @@ lower-low P (suc l) t = go (t .1)
     go (e ∷ d ∷ r) = omega arith
 
 -- so many free blocks a deed needs
-abbrev pub needed : {P Q : Type 0} → Deed P → tree.Root ℕ Q → ℕ
+abbrev pub needed : {P Q : Type 0} → Change P → tree.Root ℕ Q → ℕ
 needed begin t = 1
 needed (puts s a) t = 2 * suc (t .0) + 1
 needed (takes s) t = 2 * suc (t .0) + 1
 
-pub changed-low : (P : Type 0) (d : Deed P) (t : tree.Root ℕ P) → 2 * changed P d t .0 < needed d t
+pub changed-low : (P : Type 0) (d : Change P) (t : tree.Root ℕ P) → 2 * changed P d t .0 < needed d t
 changed-low P begin t = omega arith
 changed-low P (puts s a) t = let q = raise-low P None (overRoot Some same t) in omega (arith, q)
 changed-low P (takes s) t = let q = lower-low P (t .0) (None, tree.remE (Option ℕ) P None s (t .0) (overRoot Some same t .1 .1)) in omega (arith, q)
@@ -242,7 +242,7 @@ module _ (P : Type 0) (N : ℕ → Type 0) where
       go ih [] a = tt
       go ih (e ∷ r) a = (ih (e .1) (a .0), go ih r (a .1))
 
-changed-known : (N : ℕ → Type 0) (d : Deed ℕ) (t : Tree) → All ℕ ℕ (λ i u. N (u .0)) (suc (t .0)) (t .1) → All (Option ℕ) ℕ (λ i u. Known N (u .0)) (suc (changed ℕ d t .0)) (changed ℕ d t .1)
+changed-known : (N : ℕ → Type 0) (d : Change ℕ) (t : Tree) → All ℕ ℕ (λ i u. N (u .0)) (suc (t .0)) (t .1) → All (Option ℕ) ℕ (λ i u. Known N (u .0)) (suc (changed ℕ d t .0)) (changed ℕ d t .1)
 changed-known N begin t a = (tt, tt)
 changed-known N (puts s x) t a = kept (Option ℕ) ℕ None (λ i u. Known N (u .0)) (λ l es. tt) s x (overRoot Some same t) (known-all ℕ N (suc (t .0)) (t .1) a) .0
 changed-known N (takes s) t a = kept (Option ℕ) ℕ None (λ i u. Known N (u .0)) (λ l es. tt) s 0 (overRoot Some same t) (known-all ℕ N (suc (t .0)) (t .1) a) .1
@@ -257,8 +257,8 @@ module _ (n : ℕ) where
   abbrev In : ℕ → Type 0
   In b = (2 ≤ b) × (b < n)
 
-  grow-inside : (d : Deed ℕ) (f : List ℕ) (t : Tree) → Each In f → needed d t ≤ length f → All ℕ ℕ (λ i u. In (u .0)) (suc (t .0)) (t .1) → All ℕ ℕ (λ i u. In (u .0)) (suc (grow ℕ d f t .0)) (grow ℕ d f t .1)
-  unfolding grow
+  grow-inside : (d : Change ℕ) (f : List ℕ) (t : Tree) → Each In f → needed d t ≤ length f → All ℕ ℕ (λ i u. In (u .0)) (suc (t .0)) (t .1) → All ℕ ℕ (λ i u. In (u .0)) (suc (changedOn ℕ d f t .0)) (changedOn ℕ d f t .1)
+  unfolding changedOn
   grow-inside d f t e h a =
       numbers-from ℕ (λ i. getD f i 0) In (changed ℕ d t) (λ i q. getD-each In f i 0 e (let z = changed-low ℕ d t in omega (arith, z))) (changed-known In d t a)
 
@@ -272,23 +272,23 @@ del-each : (s : ℕ) (rs : List (ℕ × ℕ)) → Each (λ (r : ℕ × ℕ). r .
 del-each s [] e = tt
 del-each s (r ∷ rs) e = cond-both (eqb s (r .0)) _ _ (Each (λ (r : ℕ × ℕ). r .1 ≤ 18000)) (λ u. e .1) (λ u. (e .0, del-each s rs (e .1)))
 
-done-each : (d : Deed ℕ) (rs : List (ℕ × ℕ)) → Allowed d → Each (λ (r : ℕ × ℕ). r .1 ≤ 18000) rs → Each (λ (r : ℕ × ℕ). r .1 ≤ 18000) (done d rs)
+done-each : (d : Change ℕ) (rs : List (ℕ × ℕ)) → Allowed d → Each (λ (r : ℕ × ℕ). r .1 ≤ 18000) rs → Each (λ (r : ℕ × ℕ). r .1 ≤ 18000) (done d rs)
 done-each begin rs h e = tt
 done-each (puts s a) rs h e = ins-each s a rs (h .1) e
 done-each (takes s) rs h e = del-each s rs e
 
 -- a sound tree stays sound
-pub grow-fit : (n : ℕ) (d : Deed ℕ) (f : List ℕ) (t : Tree) → Allowed d → Each (λ b. (2 ≤ b) × (b < n)) f → needed d t ≤ length f → Fit n t → Fit n (grow ℕ d f t)
+pub grow-fit : (n : ℕ) (d : Change ℕ) (f : List ℕ) (t : Tree) → Allowed d → Each (λ b. (2 ≤ b) × (b < n)) f → needed d t ≤ length f → Fit n t → Fit n (changedOn ℕ d f t)
 grow-fit n d f t h e k F =
     let w = same-rule ℕ ℕ (t .0) (t .1) .1 (F .laid) in
     record {
-      laid = same-rule ℕ ℕ (grow ℕ d f t .0) (grow ℕ d f t .1) .0 (grow-wf d f t h w);
+      laid = same-rule ℕ ℕ (changedOn ℕ d f t .0) (changedOn ℕ d f t .1) .0 (grow-wf d f t h w);
       inside = grow-inside n d f t e k (F .inside);
       angles = subst (Each (λ (r : ℕ × ℕ). r .1 ≤ 18000)) (sym (grow-rows d f t h w)) (done-each d (rows ℕ ℕ (t .0) (t .1)) h (F .angles)) }
 
 -- an empty leaf is made from nothing
-pub begin-fit : (n : ℕ) (f : List ℕ) (t : Tree) → Each (λ b. (2 ≤ b) × (b < n)) f → 1 ≤ length f → Fit n (grow ℕ begin f t)
-unfolding grow
+pub begin-fit : (n : ℕ) (f : List ℕ) (t : Tree) → Each (λ b. (2 ≤ b) × (b < n)) f → 1 ≤ length f → Fit n (changedOn ℕ begin f t)
+unfolding changedOn
 begin-fit n f t e k = record {
   laid = (tt, tt, tt, omega arith);
   inside = (getD-each (λ b. (2 ≤ b) × (b < n)) f 0 0 e (omega arith), tt);
@@ -328,7 +328,7 @@ pub reach-form : (t : Tree) → reach (form t) ≡ reach t
 reach-form t = marks-over bare (suc (t .0)) (t .1)
 
 -- so many writes
-pub writes-form : (d : Deed ℕ) (t : Tree) → news ℕ (changed ℕ d t) ≡ writes (blunt d) (form t)
+pub writes-form : (d : Change ℕ) (t : Tree) → news ℕ (changed ℕ d t) ≡ writes (withoutAngle d) (form t)
 unfolding writes
 writes-form d t =
     sym (over-tally {M = Option ℕ} {P = ℕ} same bare isNew isNew (λ m. refl) (suc (changed ℕ d t .0)) (changed ℕ d t .1))
