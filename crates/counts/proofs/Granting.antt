@@ -13,13 +13,6 @@ use Rattle.std.proofs.shelf.Tests.{le-leb, lt-leb}
 use Rattle.counts.specs.Counts.{spare, freeBlocks}
 use Rattle.counts.specs.Grants.{lowestFree}
 
-pub left-in : (xs : List ℕ) (n l : ℕ) → l ≤ length xs → 0 < length (drop n (take l xs)) → n < l
-left-in xs n l h p = omega (arith, length-drop n (take l xs), length-take-le l xs h)
-
-pub first-in : (xs : List ℕ) (n l : ℕ) → l ≤ length xs → n < l → drop n (take l xs) ≡ getD xs n 0 ∷ drop (n + 1) (take l xs)
-first-in xs n l h lt =
-    drop-more (take l xs) n 0 (omega (arith, length-take-le l xs h)) ∙ ap (λ x. x ∷ drop (n + 1) (take l xs)) (getD-take l xs n 0 lt)
-
 -- block b, after those below it
 pub one-on : (cs : List ℕ) (b N : ℕ) → b < N → spare (N - b) b cs ≡ cond (ltb 0 (getD cs b 0)) [] (b ∷ []) ++ spare (N - (b + 1)) (b + 1) cs
 one-on cs b N lt =

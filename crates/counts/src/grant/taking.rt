@@ -3,9 +3,10 @@ ghost use mathlib.Core.Bool.{cond};
 ghost use mathlib.Core.List.{[], _∷_, _++_};
 ghost use Prim.Native.Nat.{ℕ, _+_, _<_, _≤_};
 ghost use lib.Dec.{ltb};
-ghost use lib.ListN.{length, take, drop};
+ghost use lib.ListN.{length, getD, take};
 ghost use Rattle.std.specs.Of.Vec.{vec-len, vec-items};
 ghost use Rattle.std.specs.Options.{mapped};
+ghost use Rattle.std.specs.Slices.{found};
 ghost use Rattle.counts.specs.Grants.{inGrant, lowestFree};
 
 use super::Grant;
@@ -29,7 +30,8 @@ impl Grant {
     // The n lowest free blocks, if there are so many.
     pub fn lowest(counts: &Counts, n: usize) -> Option<Grant>
         requires { ⌜ n ≤ 11 ⌝ ∗ ⌜ 2 ≤ vec-len (now counts .of) ⌝ ∗ ⌜ vec-len (now counts .of) ≤ 4096 ⌝ }
-        ensures { λ r. ⌜ mapped inGrant r ≡ lowestFree n (vec-items (now (counts .entry) .of)) ⌝ }
+        ensures these { λ r. ⌜ mapped inGrant r ≡ lowestFree n (vec-items (now (counts .entry) .of)) ⌝ }
+        ensures whole { λ r. ⌜ found r (λ g. (g .next ≡ 0) × (g .len ≡ n)) ⌝ }
     {
         let mut blocks = [0u32; 11];
         let mut len: usize = 0;
@@ -48,8 +50,11 @@ impl Grant {
 
     // The next block.
     pub fn take(&mut self) -> u32
-        requires { ⌜ 0 < length (inGrant (now self)) ⌝ }
-        ensures { λ r. ⌜ inGrant (now (self .entry)) ≡ r ∷ inGrant (now (self .exit)) ⌝ }
+        requires { ⌜ now self .next < now self .len ⌝ }
+        ensures block { λ r. ⌜ r ≡ getD (now (self .entry) .blocks) (now (self .entry) .next) 0 ⌝ }
+        ensures next { λ _. ⌜ now (self .exit) .next ≡ now (self .entry) .next + 1 ⌝ }
+        ensures len { λ _. ⌜ now (self .exit) .len ≡ now (self .entry) .len ⌝ }
+        ensures blocks { λ _. ⌜ now (self .exit) .blocks ≡ now (self .entry) .blocks ⌝ }
     {
         let block = self.blocks[self.next];
         self.next += 1;
@@ -58,15 +63,17 @@ impl Grant {
 
     // The next block is not needed, and stays free.
     pub fn give_back(&mut self)
-        requires { ⌜ 0 < length (inGrant (now self)) ⌝ }
-        ensures { λ _. ⌜ inGrant (now (self .exit)) ≡ drop 1 (inGrant (now (self .entry))) ⌝ }
+        requires { ⌜ now self .next < now self .len ⌝ }
+        ensures next { λ _. ⌜ now (self .exit) .next ≡ now (self .entry) .next + 1 ⌝ }
+        ensures len { λ _. ⌜ now (self .exit) .len ≡ now (self .entry) .len ⌝ }
+        ensures blocks { λ _. ⌜ now (self .exit) .blocks ≡ now (self .entry) .blocks ⌝ }
     {
         self.next += 1;
     }
 
     // Lets the grant go, with no block in it.
     pub fn end(self)
-        requires { ⌜ inGrant self ≡ [] ⌝ }
+        requires { ⌜ self .next ≡ self .len ⌝ }
     {
         let Grant { blocks: _, next: _, len: _ } = self;
     }

@@ -16,9 +16,11 @@ few true = omega arith
 few false = omega arith
 
 pub returns-then-len-n : need.returns-then-len-n
-returns-then-len-n c =
-    full (vec-items (c .args .counts .now .of)) (take (c .loop-block .len) (c .loop-block .blocks)) _ (c .args .n)
-      (length-take-le (c .loop-block .len) (c .loop-block .blocks) (omega (arith, c .loop-block .inv .1, c .pre)) ∙ c .if-len-n .taken) (c .loop-block .inv .2)
+returns-then-len-n c = record {
+    whole = (refl, c .if-len-n .taken);
+    these = full (vec-items (c .args .counts .now .of)) (take (c .loop-block .len) (c .loop-block .blocks)) _ (c .args .n)
+      (length-take-le (c .loop-block .len) (c .loop-block .blocks) (omega (arith, c .loop-block .inv .1, c .pre)) ∙ c .if-len-n .taken) (c .loop-block .inv .2);
+  }
 
 pub loop-block-again : need.loop-block-again
 loop-block-again c =
@@ -40,11 +42,17 @@ pub returns-then-len-n-2 : need.returns-then-len-n-2
 returns-then-len-n-2 c =
     let cs : List ℕ = vec-items (c .args .counts .now .of) in
     let xs : List ℕ = take (c .loop-block .len) (c .loop-block .blocks) in
-    scarce cs xs (c .args .n) (omega (arith, length-take-le (c .loop-block .len) (c .loop-block .blocks) (omega (arith, c .loop-block .inv .1, c .pre, c .loop-block .inv .0)), c .if-len-n-2 .taken))
-      (none-left cs xs (c .loop-block .block) (omega (arith, c .args .counts .now .of .ok .0, c .len-block-end .ensures)) (c .loop-block .inv .2))
+    record {
+      whole = tt;
+      these = scarce cs xs (c .args .n) (omega (arith, length-take-le (c .loop-block .len) (c .loop-block .blocks) (omega (arith, c .loop-block .inv .1, c .pre, c .loop-block .inv .0)), c .if-len-n-2 .taken))
+      (none-left cs xs (c .loop-block .block) (omega (arith, c .args .counts .now .of .ok .0, c .len-block-end .ensures)) (c .loop-block .inv .2));
+    }
 
 pub returns : need.returns
 returns c =
     let e : c .loop-block .len ≡ c .args .n = omega (arith, c .loop-block .inv .0) in
-    full (vec-items (c .args .counts .now .of)) (take (c .loop-block .len) (c .loop-block .blocks)) _ (c .args .n)
-      (length-take-le (c .loop-block .len) (c .loop-block .blocks) (omega (arith, c .loop-block .inv .1, c .pre)) ∙ e) (c .loop-block .inv .2)
+    record {
+      whole = (refl, e);
+      these = full (vec-items (c .args .counts .now .of)) (take (c .loop-block .len) (c .loop-block .blocks)) _ (c .args .n)
+        (length-take-le (c .loop-block .len) (c .loop-block .blocks) (omega (arith, c .loop-block .inv .1, c .pre)) ∙ e) (c .loop-block .inv .2);
+    }
