@@ -3,13 +3,14 @@ use mathlib.Core.Path.{_≡_, refl, ap, ap₂, sym, subst, _∙_}
 use mathlib.Core.List.{List, [], _∷_, _++_, append-nil}
 use mathlib.Core.Bool.{Bool, true, false, cond}
 use mathlib.Core.Logic.{⊎-elim}
-use mathlib.Core.Option.{Option, some, none}
+use Rattle.std.specs.declared.option.Option.{Option}
+use Rattle.std.specs.declared.option.Option.the-variants.{Some, None}
 use Prim.Native.Nat.{ℕ, zero, suc, _+_, _-_, _*_, _<_, _≤_}
 use native.Mathlib.Omega.{arith}
 use lib.ListN.{length, getD, take, drop, length-take, length-drop}
 use lib.Dec.{eqb, ltb}
 use Rattle.std.proofs.shelf.Tests.{eq-eqb, ne-eqb, lt-ltb, le-ltb, cases-eq, cases-lt, cond-true}
-use Rattle.tree.specs.Node.{ins, first, at, ahead, Every, mapE, Block, parts, opened, touch, kid}
+use Rattle.tree.specs.Node.{ins, first, at, ahead, Every, mapE, Node, parts, opened, touch, kid}
 use Rattle.tree.specs.Tree.{Pay, Tree, Root, Wf, over, overRoot, putE, putRoot, raise, only, rows}
 use Rattle.tree.specs.Stored.{forget, same, IsPut, Numbers}
 use Rattle.tree.proofs.Over.{map-append, map-take, map-drop, map-length, map-first, map-ahead, map-ins, on-only}
@@ -29,17 +30,17 @@ module _ (fresh : ℕ → Bool) (gs : List ℕ) (s a : ℕ) where
   abbrev F : (l : ℕ) → Pay ℕ ℕ l → Pay O ℕ l
   F = old-of ℕ fresh
 
-  marked : (l k b : ℕ) → fresh b ≡ true → (us : List (ℕ × Pay ℕ ℕ l)) (vs : List (ℕ × Pay O ℕ l)) → mapE (G l) us ≡ vs → _≡_ {A = ℕ × Tree O ℕ l} (k, G (suc l) (b, us)) (k, (none, vs))
-  marked l k b fb us vs h = ap₂ (λ (m : O) (z : List (ℕ × Pay O ℕ l)). (k, (m, z))) (cond-true (fresh b) none (some b) fb) h
+  marked : (l k b : ℕ) → fresh b ≡ true → (us : List (ℕ × Pay ℕ ℕ l)) (vs : List (ℕ × Pay O ℕ l)) → mapE (G l) us ≡ vs → _≡_ {A = ℕ × Tree O ℕ l} (k, G (suc l) (b, us)) (k, (None, vs))
+  marked l k b fb us vs h = ap₂ (λ (m : O) (z : List (ℕ × Pay O ℕ l)). (k, (m, z))) (cond-true (fresh b) None (Some b) fb) h
 
   pair : {Y : Type 0} (x y z w : Y) → x ≡ z → y ≡ w → x ∷ y ∷ [] ≡ z ∷ w ∷ []
   pair {Y} x y z w p q = ap₂ (λ (x y : Y). x ∷ y ∷ []) p q
 
   module _ (l k x y : ℕ) (fx : fresh x ≡ true) (fy : fresh y ≡ true) (es us : List (ℕ × Pay ℕ ℕ l)) (old : Every (Old ℕ fresh l) es) where
     abbrev g : List (ℕ × Pay O ℕ l) → List (ℕ × Pay O ℕ l)
-    g = putE O ℕ none s a l
+    g = putE O ℕ None s a l
 
-    kid-is : (m : ℕ) → mapE (G l) us ≡ g (mapE (F l) (chosen s es)) → mapE (G (suc l)) (placed x y (parted s k es us)) ≡ kid none s g k (F (suc l) (m, es))
+    kid-is : (m : ℕ) → mapE (G l) us ≡ g (mapE (F l) (chosen s es)) → mapE (G (suc l)) (placed x y (parted s k es us)) ≡ kid None s g k (F (suc l) (m, es))
     kid-is m =
         ⊎-elim
         (λ n. ⊎-elim
@@ -59,14 +60,14 @@ module _ (fresh : ℕ → Bool) (gs : List ℕ) (s a : ℕ) where
       go true false = every-drop (Old ℕ fresh l) 7 es p
       go false d = p
 
-  put-is : (l : ℕ) (es : List (ℕ × Pay ℕ ℕ l)) → ((j : ℕ) → j < 2 * l → fresh (getD gs j 0) ≡ true) → Every (Old ℕ fresh l) es → mapE (G l) (putN gs s a l es) ≡ putE O ℕ none s a l (mapE (F l) es)
+  put-is : (l : ℕ) (es : List (ℕ × Pay ℕ ℕ l)) → ((j : ℕ) → j < 2 * l → fresh (getD gs j 0) ≡ true) → Every (Old ℕ fresh l) es → mapE (G l) (putN gs s a l es) ≡ putE O ℕ None s a l (mapE (F l) es)
   put-is zero es f old = map-ins (same {X = ℕ}) s a es
   put-is (suc l) es f old = go (put-is l) es old
     where
       K : ℕ → Tree ℕ ℕ l → List (ℕ × Tree ℕ ℕ l)
       K = kidN gs s a l (putN gs s a l)
-      go : ((es : List (ℕ × Pay ℕ ℕ l)) → ((j : ℕ) → j < 2 * l → fresh (getD gs j 0) ≡ true) → Every (Old ℕ fresh l) es → mapE (G l) (putN gs s a l es) ≡ putE O ℕ none s a l (mapE (F l) es))
-        → (es : List (ℕ × Tree ℕ ℕ l)) → Every (Old ℕ fresh (suc l)) es → mapE (G (suc l)) (at s (kidN gs s a l (putN gs s a l)) es) ≡ at s (kid none s (putE O ℕ none s a l)) (mapE (F (suc l)) es)
+      go : ((es : List (ℕ × Pay ℕ ℕ l)) → ((j : ℕ) → j < 2 * l → fresh (getD gs j 0) ≡ true) → Every (Old ℕ fresh l) es → mapE (G l) (putN gs s a l es) ≡ putE O ℕ None s a l (mapE (F l) es))
+        → (es : List (ℕ × Tree ℕ ℕ l)) → Every (Old ℕ fresh (suc l)) es → mapE (G (suc l)) (at s (kidN gs s a l (putN gs s a l)) es) ≡ at s (kid None s (putE O ℕ None s a l)) (mapE (F (suc l)) es)
       go ih [] old = refl
       go ih (e ∷ r) old =
           let t = e .1 in
@@ -74,9 +75,9 @@ module _ (fresh : ℕ → Bool) (gs : List ℕ) (s a : ℕ) where
                 (ih (chosen s (t .1)) (λ j h. f j (omega arith)) (every-chosen l (t .1) (old .0 .1))) in
           rw (map-ahead (F (suc l)) s r) (by (ahead s r) ki (go ih r (old .1)))
         where
-          by : (b : Bool) → mapE (G (suc l)) (kidN gs s a l (putN gs s a l) (e .0) (e .1)) ≡ kid none s (putE O ℕ none s a l) (e .0) (F (suc l) (e .1))
-            → mapE (G (suc l)) (at s (kidN gs s a l (putN gs s a l)) r) ≡ at s (kid none s (putE O ℕ none s a l)) (mapE (F (suc l)) r)
-            → mapE (G (suc l)) (cond b (kidN gs s a l (putN gs s a l) (e .0) (e .1) ++ r) (e ∷ at s (kidN gs s a l (putN gs s a l)) r)) ≡ cond b (kid none s (putE O ℕ none s a l) (e .0) (F (suc l) (e .1)) ++ mapE (F (suc l)) r) ((e .0, F (suc l) (e .1)) ∷ at s (kid none s (putE O ℕ none s a l)) (mapE (F (suc l)) r))
+          by : (b : Bool) → mapE (G (suc l)) (kidN gs s a l (putN gs s a l) (e .0) (e .1)) ≡ kid None s (putE O ℕ None s a l) (e .0) (F (suc l) (e .1))
+            → mapE (G (suc l)) (at s (kidN gs s a l (putN gs s a l)) r) ≡ at s (kid None s (putE O ℕ None s a l)) (mapE (F (suc l)) r)
+            → mapE (G (suc l)) (cond b (kidN gs s a l (putN gs s a l) (e .0) (e .1) ++ r) (e ∷ at s (kidN gs s a l (putN gs s a l)) r)) ≡ cond b (kid None s (putE O ℕ None s a l) (e .0) (F (suc l) (e .1)) ++ mapE (F (suc l)) r) ((e .0, F (suc l) (e .1)) ∷ at s (kid None s (putE O ℕ None s a l)) (mapE (F (suc l)) r))
           by true ki more = map-append (G (suc l)) (kidN gs s a l (putN gs s a l) (e .0) (e .1)) r ∙ ap₂ (λ (u v : List (ℕ × Tree O ℕ l)). u ++ v) ki (map-old ℕ fresh (suc l) r (old .1))
           by false ki more = ap₂ (λ (u : Tree O ℕ l) (v : List (ℕ × Tree O ℕ l)). (e .0, u) ∷ v) (over-old ℕ fresh (suc l) (e .1) (old .0)) more
 
@@ -101,9 +102,9 @@ root-is fresh gs s a r f old =
     let l = r .0 in
     let x = getD gs (2 * suc l) 0 in
     on-only (forget fresh) same 0 s l x (putN gs s a (suc l) ((0, r .1) ∷ []))
-    ∙ ap₂ (λ (m : O) (z : List (ℕ × Tree O ℕ l)). only O ℕ l m z) (cond-true (fresh x) none (some x) (f (2 * suc l) (omega arith)))
+    ∙ ap₂ (λ (m : O) (z : List (ℕ × Tree O ℕ l)). only O ℕ l m z) (cond-true (fresh x) None (Some x) (f (2 * suc l) (omega arith)))
         (put-is fresh gs s a (suc l) ((0, r .1) ∷ []) (λ j h. f j (omega arith)) (old, tt))
-    ∙ crowned O ℕ none s a l (old-of ℕ fresh (suc l) (r .1))
+    ∙ crowned O ℕ None s a l (old-of ℕ fresh (suc l) (r .1))
 
 -- so the tree is well formed, and low
 pub root-low : (fresh : ℕ → Bool) (gs : List ℕ) (s a : ℕ) (r : Root ℕ ℕ) → s < 10000 → Wf ℕ ℕ (r .0) (r .1) → ((j : ℕ) → j < 2 * suc (r .0) + 1 → fresh (getD gs j 0) ≡ true) → Old ℕ fresh (suc (r .0)) (r .1) → putRootN gs s a r .0 ≤ 4

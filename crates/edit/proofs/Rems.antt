@@ -3,13 +3,14 @@ use mathlib.Core.Path.{_≡_, refl, ap, ap₂, sym, subst, _∙_}
 use mathlib.Core.List.{List, [], _∷_, _++_, append-nil}
 use mathlib.Core.Bool.{Bool, true, false, cond}
 use mathlib.Core.Logic.{⊎-elim}
-use mathlib.Core.Option.{Option, some, none}
+use Rattle.std.specs.declared.option.Option.{Option}
+use Rattle.std.specs.declared.option.Option.the-variants.{Some, None}
 use Prim.Native.Nat.{ℕ, zero, suc, _+_, _-_, _*_, _<_, _≤_}
 use native.Mathlib.Omega.{arith}
 use lib.ListN.{length, getD, take, drop, length-take, length-drop}
 use lib.Dec.{eqb, ltb}
 use Rattle.std.proofs.shelf.Tests.{eq-eqb, ne-eqb, lt-ltb, le-ltb, cases-eq, cases-lt, cond-true}
-use Rattle.tree.specs.Node.{del, first, at, beside, Every, mapE, Block, touch, readyRight, readyLeft, Seg}
+use Rattle.tree.specs.Node.{del, first, at, beside, Every, mapE, Node, touch, readyRight, readyLeft, Seg}
 use Rattle.tree.specs.Tree.{Pay, Tree, Gap, Cell, Span, remE}
 use Rattle.tree.specs.Stored.{forget, same}
 use Rattle.tree.proofs.Over.{map-append, map-take, map-drop, map-length, map-first, map-del}
@@ -37,15 +38,15 @@ module _ (fresh : ℕ → Bool) (s : ℕ) where
   abbrev F : (l : ℕ) → Pay ℕ ℕ l → Pay O ℕ l
   F = old-of ℕ fresh
 
-  marked : (l k b : ℕ) → fresh b ≡ true → (us : List (ℕ × Pay ℕ ℕ l)) (vs : List (ℕ × Pay O ℕ l)) → mapE (G l) us ≡ vs → _≡_ {A = ℕ × Tree O ℕ l} (k, G (suc l) (b, us)) (k, (none, vs))
-  marked l k b fb us vs h = ap₂ (λ (m : O) (z : List (ℕ × Pay O ℕ l)). (k, (m, z))) (cond-true (fresh b) none (some b) fb) h
+  marked : (l k b : ℕ) → fresh b ≡ true → (us : List (ℕ × Pay ℕ ℕ l)) (vs : List (ℕ × Pay O ℕ l)) → mapE (G l) us ≡ vs → _≡_ {A = ℕ × Tree O ℕ l} (k, G (suc l) (b, us)) (k, (None, vs))
+  marked l k b fb us vs h = ap₂ (λ (m : O) (z : List (ℕ × Pay O ℕ l)). (k, (m, z))) (cond-true (fresh b) None (Some b) fb) h
 
   abbrev Up : (l : ℕ) → (ℕ × Tree ℕ ℕ l) → (ℕ × Tree O ℕ l)
   Up l e = (e .0, F (suc l) (e .1))
 
   module _ (l x y : ℕ) (fx : fresh x ≡ true) (fy : fresh y ≡ true) (e d : ℕ × Tree ℕ ℕ l) (oe : Old ℕ fresh (suc l) (e .1)) (od : Old ℕ fresh (suc l) (d .1)) (us : List (ℕ × Pay ℕ ℕ l)) where
     abbrev g : List (ℕ × Pay O ℕ l) → List (ℕ × Pay O ℕ l)
-    g = remE O ℕ none s l
+    g = remE O ℕ None s l
 
     abbrev xs : List (ℕ × Pay ℕ ℕ l)
     xs = e .1 .1
@@ -53,7 +54,7 @@ module _ (fresh : ℕ → Bool) (s : ℕ) where
     abbrev ys : List (ℕ × Pay ℕ ℕ l)
     ys = d .1 .1
 
-    right-is : s < d .0 → ((length ys ≡ 7 → ⊥) → s < first (drop 1 ys)) → mapE (G l) us ≡ g (mapE (F l) (workR xs ys)) → mapE (G (suc l)) (placed x y (partsR (e .0) xs ys us) ++ cond (short xs) [] (d ∷ [])) ≡ at s (touch none g) (readyRight none (Up l e) (Up l d))
+    right-is : s < d .0 → ((length ys ≡ 7 → ⊥) → s < first (drop 1 ys)) → mapE (G l) us ≡ g (mapE (F l) (workR xs ys)) → mapE (G (suc l)) (placed x y (partsR (e .0) xs ys us) ++ cond (short xs) [] (d ∷ [])) ≡ at s (touch None g) (readyRight None (Up l e) (Up l d))
     right-is v w =
         ⊎-elim
         (λ m. ⊎-elim
@@ -65,7 +66,7 @@ module _ (fresh : ℕ → Bool) (s : ℕ) where
           (λ p. pair _ _ _ _ (marked l (e .0) x fx us _ p) (ap (λ (z : Tree O ℕ l). (d .0, z)) (over-old ℕ fresh (suc l) (d .1) od))))
         (cases-eq (length xs) 7)
 
-    left-is : d .0 ≤ s → ((length xs ≡ 7 → ⊥) → first (drop (length xs - 1) xs) ≤ s) → mapE (G l) us ≡ g (mapE (F l) (workL xs ys)) → mapE (G (suc l)) (cond (short ys) [] (e ∷ []) ++ placed x y (partsL (e .0) (d .0) xs ys us)) ≡ at s (touch none g) (readyLeft none (Up l e) (Up l d))
+    left-is : d .0 ≤ s → ((length xs ≡ 7 → ⊥) → first (drop (length xs - 1) xs) ≤ s) → mapE (G l) us ≡ g (mapE (F l) (workL xs ys)) → mapE (G (suc l)) (cond (short ys) [] (e ∷ []) ++ placed x y (partsL (e .0) (d .0) xs ys us)) ≡ at s (touch None g) (readyLeft None (Up l e) (Up l d))
     left-is v w =
         ⊎-elim
         (λ m. ⊎-elim
@@ -127,8 +128,8 @@ removes fresh gs s (suc l) lo hi (e ∷ r) p f old = go (removes fresh gs s l) l
   where
     x : ℕ
     x = getD gs (2 * l) 0
-    go : ((lo hi : ℕ) (es : List (ℕ × Pay ℕ ℕ l)) → Span ℕ ℕ l lo hi es → ((j : ℕ) → j < 2 * l → fresh (getD gs j 0) ≡ true) → Every (Old ℕ fresh l) es → mapE (new-of ℕ fresh l) (remN gs s l es) ≡ remE O ℕ none s l (mapE (old-of ℕ fresh l) es))
-      → (lo : ℕ) (e : ℕ × Tree ℕ ℕ l) (r : List (ℕ × Tree ℕ ℕ l)) → Span ℕ ℕ (suc l) lo hi (e ∷ r) → Every (Old ℕ fresh (suc l)) (e ∷ r) → mapE (new-of ℕ fresh (suc l)) (shrinkN gs s l (remN gs s l) (e ∷ r)) ≡ remE O ℕ none s (suc l) (mapE (old-of ℕ fresh (suc l)) (e ∷ r))
+    go : ((lo hi : ℕ) (es : List (ℕ × Pay ℕ ℕ l)) → Span ℕ ℕ l lo hi es → ((j : ℕ) → j < 2 * l → fresh (getD gs j 0) ≡ true) → Every (Old ℕ fresh l) es → mapE (new-of ℕ fresh l) (remN gs s l es) ≡ remE O ℕ None s l (mapE (old-of ℕ fresh l) es))
+      → (lo : ℕ) (e : ℕ × Tree ℕ ℕ l) (r : List (ℕ × Tree ℕ ℕ l)) → Span ℕ ℕ (suc l) lo hi (e ∷ r) → Every (Old ℕ fresh (suc l)) (e ∷ r) → mapE (new-of ℕ fresh (suc l)) (shrinkN gs s l (remN gs s l) (e ∷ r)) ≡ remE O ℕ None s (suc l) (mapE (old-of ℕ fresh (suc l)) (e ∷ r))
     go ih lo e [] p old = one _ _ (marked fresh s l (e .0) (getD gs (2 * l) 0) (f (2 * l) (omega arith)) (remN gs s l (e .1 .1)) _ (ih (e .0) (p .1 .0) (e .1 .1) (p .1 .1 .0) (λ j h. f j (omega arith)) (old .0 .1)))
     go ih lo e (d ∷ []) p old =
         let px = p .1 .1 in

@@ -6,7 +6,8 @@ use Prim.Native.Nat.{ℕ, zero, suc, _≤_, _<_, _+_, _*_, _-_}
 use lib.ListN.{length, take, drop, getD}
 use lib.Dec.{eqb, ltb}
 use Rattle.tree.specs.Node.{del, first, isNil, beside, Every, mapE}
-use mathlib.Core.Option.{Option, some, none}
+use Rattle.std.specs.declared.option.Option.{Option}
+use Rattle.std.specs.declared.option.Option.the-variants.{Some, None}
 use Rattle.tree.specs.Tree.{Pay, Tree, Span, over, remE}
 use Rattle.tree.specs.Stored.{forget, same, Numbers}
 use Rattle.page.specs.Block.{blockAt}
@@ -95,4 +96,4 @@ Remove-keeps = (gs : List ℕ) (s N l : ℕ) (es : List (ℕ × Pay ℕ ℕ l)) 
 -- Remove on numbers is remove, with the numbers of the grant forgotten.
 abbrev pub Removes : Type 0
 Removes = (fresh : ℕ → Bool) (gs : List ℕ) (s l lo hi : ℕ) (es : List (ℕ × Pay ℕ ℕ l)) → Span ℕ ℕ l lo hi es → ((j : ℕ) → j < 2 * l → fresh (getD gs j 0) ≡ true) → Every (Numbers ℕ (λ b. fresh b ≡ false) l) es
-    → mapE (over (forget fresh) same l) (remN gs s l es) ≡ remE (Option ℕ) ℕ none s l (mapE (over some same l) es)
+    → mapE (over (forget fresh) same l) (remN gs s l es) ≡ remE (Option ℕ) ℕ None s l (mapE (over Some same l) es)

@@ -61,20 +61,3 @@ pub record Grown (m : Meaning) (cs : List ℕ) (m′ : Meaning) (cs′ gs : List
   pub os : List Op
   pub trace : m′ ≡ replay os m
   pub places : Places gs 0 (2 * suc (r .0) + 1) os
-
--- the same without a grant, and as many counts as the device has blocks
-pub record Holding (m : Meaning) (cs : List ℕ) (block level s : ℕ) (r : Root ℕ ℕ) (h : ℕ → ℕ) : Type 0 where
-  pub height : r .0 ≡ level
-  pub at : r .1 .0 ≡ block
-  pub stored : Stored (blockAt m) (suc (r .0)) (r .1)
-  pub wf : Wf ℕ ℕ (r .0) (r .1)
-  pub counted : Counted (blockAt m) cs (λ b. one (r .1 .0) b + h b)
-  pub modest : (b : ℕ) → h b + 192 ≤ 2000
-  pub left : 2 * suc (r .0) + 1 ≤ m .left
-  pub wide : Wide m
-  pub speed : s < 10000
-
-pub record Held (m : Meaning) (cs : List ℕ) (block level s : ℕ) : Type 0 where
-  pub tree : Root ℕ ℕ
-  pub others : ℕ → ℕ
-  pub holding : Holding m cs block level s tree others

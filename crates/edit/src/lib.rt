@@ -15,7 +15,7 @@ ghost use Rattle.page.specs.View.{view, entries};
 ghost use Rattle.edit.specs.Plan.{parted, placed, links, putRootN};
 ghost use Rattle.counts.specs.Moves.{opening, linking, stateOf, step, run, Laid};
 ghost use Rattle.edit.specs.Remove.{Remove-keeps, Removes};
-ghost use Rattle.edit.specs.Trees.{Planted, Rooted, Grown, Holding, Held};
+ghost use Rattle.edit.specs.Trees.{Planted, Rooted, Grown};
 ghost use Rattle.edit.specs.Able.{Open, Able, Ready, Made};
 ghost use Rattle.counts.specs.Moves.{Wide, Owned};
 ghost use Rattle.edit.specs.Kids.{listed};
@@ -141,19 +141,4 @@ pub fn put_tree<D: Device>(store: &mut Store<D>, root: Root, row: Entry, grant: 
     grant.end();
     store.link(block, &made);
     Root { block, level: root.level + 1 }
-}
-
-// Puts a row into a tree that someone holds, if there are enough free blocks.
-pub fn put_row<D: Device>(store: &mut Store<D>, root: Root, row: Entry) -> Option<Root>
-    requires sound { ⌜ D·Device .sound (now store .device) ⌝ }
-    requires held { ⌜ Held (D·Device .meaning (now store .device)) (vec-items (now store .counts .of)) (root .block) (root .level) (row .speed) ⌝ }
-    requires sized { ⌜ vec-len (now store .counts .of) ≡ blocksOf (D·Device .meaning (now store .device)) ⌝ ∗ ⌜ 16 ≤ vec-len (now store .counts .of) ⌝ ∗ ⌜ vec-len (now store .counts .of) ≤ 4096 ⌝ }
-    requires small { ⌜ root .block < 268435456 ⌝ ∗ ⌜ root .level < 5 ⌝ }
-    ensures sound { λ _. ⌜ D·Device .sound (now (store .exit) .device) ⌝ }
-    ensures grown { λ a. ⌜ found a (λ u. (r : Tree-root ℕ ℕ) (h : ℕ → ℕ) → Holding (D·Device .meaning (now (store .entry) .device)) (vec-items (now (store .entry) .counts .of)) (root .block) (root .level) (row .speed) r h → (gs : List ℕ) × Grown (D·Device .meaning (now (store .entry) .device)) (vec-items (now (store .entry) .counts .of)) (D·Device .meaning (now (store .exit) .device)) (vec-items (now (store .exit) .counts .of)) gs (u .block) (u .level) (row .speed) (row .value) r h (putRootN gs (row .speed) (row .value) r)) ⌝ }
-{
-    match Grant::lowest(&store.counts, 2 * root.level as usize + 3) {
-        None => None,
-        Some(grant) => Some(put_tree(store, root, row, grant)),
-    }
 }

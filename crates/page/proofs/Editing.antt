@@ -1,11 +1,10 @@
 -- What edits of a page do to its entries.
-use mathlib.Core.Path.{_≡_, refl, ap, ap₂, sym, subst, _∙_}
+use mathlib.Core.Path.{_≡_, refl, ap, ap₂, sym, _∙_}
 use mathlib.Core.List.{List, [], _∷_, _++_, map}
 use Prim.Native.Nat.{ℕ, zero, suc, _+_, _-_, _<_, _≤_}
 use native.Mathlib.Omega.{arith}
 use native.Mathlib.Numerals.{add-one}
 use lib.ListN.{length, getD, set, take, drop, length-append, length-take, length-drop}
-use lib.Dec.{ltb}
 use lib.Seq.{take-set-lt}
 use Rattle.std.proofs.shelf.Lists.{take-take, take-map, drop-map, map-append, map-set, set-split, length-map, length-take-le, drop-take}
 use Rattle.std.proofs.shelf.Tests.{lt-ltb, le-ltb, eq-eqb, ne-eqb}

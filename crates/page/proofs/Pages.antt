@@ -1,12 +1,12 @@
 -- Pages in memory, and their words.
-use mathlib.Core.Path.{_≡_, refl, ap, sym, subst, _∙_}
-use mathlib.Core.List.{List, [], _∷_, _++_, map}
+use mathlib.Core.Path.{_≡_, refl, ap, sym, _∙_}
+use mathlib.Core.List.{List, _∷_, _++_, map}
 use Prim.Native.Nat.{ℕ, zero, suc, _+_, _-_, _*_, _<_, _≤_}
 use native.Mathlib.Omega.{arith}
-use lib.ListN.{length, getD, set, take, drop, replicate}
+use lib.ListN.{length, getD, take, replicate}
 use Rattle.std.proofs.shelf.Lists.{getD-map, getD-take, length-map, length-take-le, take-all, append-nil}
-use Rattle.page.specs.Block.{Block, flat, encode, headerOf, valueKind, children, kidsOf}
-use Rattle.std.specs.declared.option.Option.the-variants.{Some, None}
+use Rattle.page.specs.Block.{flat, encode, headerOf, valueKind, children, kidsOf}
+use Rattle.std.specs.declared.option.Option.the-variants.{Some}
 use Rattle.page.specs.View.{pair, entries, view}
 use Rattle.page.specs.declared.page.Entry.{Entry}
 use Rattle.page.specs.declared.page.Page.{Page}

@@ -1,12 +1,12 @@
 -- Elements of a list that move one place up or down.
-use mathlib.Core.Path.{_≡_, refl, ap, sym, subst, _∙_}
+use mathlib.Core.Path.{_≡_, ap, sym, _∙_}
 use mathlib.Core.List.{List, [], _∷_, _++_}
-use Prim.Native.Nat.{ℕ, zero, suc, _+_, _-_, _<_, _≤_}
+use Prim.Native.Nat.{ℕ, suc, _+_, _-_, _<_, _≤_}
 use native.Mathlib.Omega.{arith}
 use native.Mathlib.Numerals.{add-one}
-use lib.ListN.{length, getD, set, take, drop, length-take, length-drop}
+use lib.ListN.{length, getD, set, take, drop, length-drop}
 use lib.Seq.{take-set-lt}
-use Rattle.std.proofs.shelf.Lists.{take-take, take-more-set, drop-set-lt, drop-more, append-assoc, append-nil, drop-all, length-take-le, getD-take, getD-default, getD-drop, take-more}
+use Rattle.std.proofs.shelf.Lists.{take-take, take-more-set, drop-set-lt, drop-more, append-assoc, append-nil, drop-all, length-take-le, getD-take, getD-drop, take-more}
 
 module _ {X : Type 0} where
   pub up-start : (s : List X) (x : X) (i len : ℕ) → i ≤ len → take i s ++ x ∷ drop i (take len s) ≡ take i (take len s) ++ x ∷ drop i (take len s)

@@ -1,5 +1,5 @@
 -- Words of tree blocks, written and read in order.
-use mathlib.Core.Path.{_≡_, refl, ap, sym, subst, _∙_}
+use mathlib.Core.Path.{_≡_, refl, ap, sym, _∙_}
 use mathlib.Core.List.{List, [], _∷_, _++_, map}
 use mathlib.Core.Bool.{Bool, true, false, cond, _&&_}
 use mathlib.Core.Logic.{_⊎_, ⊎-elim}
@@ -7,12 +7,11 @@ use Prim.Native.Nat.{ℕ, zero, suc, _+_, _-_, _*_, _%_, _/_, _<_, _≤_}
 use native.Mathlib.Omega.{arith}
 use lib.Dec.{eqb, leb, ltb}
 use native.Mathlib.Numerals.{add-one}
-use Rattle.std.specs.declared.option.Option.{Option}
 use Rattle.std.specs.declared.option.Option.the-variants.{Some, None}
-use lib.ListN.{length, getD, set, take, drop, replicate, length-set, length-take, length-drop}
-use Rattle.std.proofs.shelf.Lists.{take-more-set, take-more, append-assoc, map-push, getD-map, getD-take, length-map, length-take-le, take-all, replicate-more, getD-drop, drop-drop, set-getD, drop-more, drop-all}
-use Rattle.std.proofs.shelf.Tests.{eq-eqb, ne-eqb, eqb-true, and-parts, false≢true, and-left, and-right, and-from, lt-leb, le-ltb, le-leb, lt-ltb}
-use Rattle.page.specs.Block.{Block, word, flat, pairs, valueKind, headerOf, encode, read, same, decode}
+use lib.ListN.{length, getD, set, take, drop, replicate, length-set}
+use Rattle.std.proofs.shelf.Lists.{take-more-set, take-more, append-assoc, map-push, replicate-more, getD-drop, drop-more, drop-all}
+use Rattle.std.proofs.shelf.Tests.{eq-eqb, eqb-true, and-parts, false≢true, and-left, and-right, and-from, lt-leb, le-ltb, le-leb, lt-ltb}
+use Rattle.page.specs.Block.{Block, word, flat, pairs, encode, read, same, decode}
 
 pub enc-start : (out : List ℕ) (h : ℕ) → 1 < length out → take 2 (set (set out 0 h) 1 0) ≡ h ∷ 0 ∷ []
 enc-start [] h l = absurd (omega arith)

@@ -1,20 +1,21 @@
 -- At most two blocks of a level are new, side by side, and only one of them has new blocks below it.
-use mathlib.Core.Path.{_≡_, refl, ap, ap₂, sym, _∙_, subst}
+use mathlib.Core.Path.{_≡_, refl, ap, sym, _∙_, subst}
 use mathlib.Core.Logic.{_⊎_, inl, inr, ⊎-elim}
 use mathlib.Core.List.{List, [], _∷_, _++_}
-use mathlib.Core.Bool.{Bool, true, false, cond}
-use Prim.Native.Nat.{ℕ, zero, suc, _+_, _*_, _-_, _≤_, _<_, min}
+use mathlib.Core.Bool.{false, cond}
+use Prim.Native.Nat.{ℕ, zero, suc, _+_, _*_, _-_, _≤_, _<_}
 use native.Mathlib.Omega.{arith}
 use lib.Dec.{ltb, eqb}
 use lib.ListN.{length, take, drop, length-take, length-drop}
-use Rattle.std.proofs.shelf.Tests.{cond-both, ne-eqb, eqb-true}
+use Rattle.std.proofs.shelf.Tests.{cond-both, eq-eqb, ne-eqb, eqb-true, cases-eq}
 use Rattle.std.specs.declared.option.Option.{Option}
 use Rattle.std.specs.declared.option.Option.the-variants.{Some, None}
-use Rattle.tree.specs.Node.{ins, del, ahead, isNil, first, at, beside, Every, mapE, Node, parts, opened, touch, kid, fillRight, fillLeft, readyRight, readyLeft, shrink}
-use Rattle.tree.specs.Tree.{Pay, Tree, Root, All, over, overRoot, putE, remE, raise, putRoot, only, lower, remRoot}
+use Rattle.tree.specs.Node.{ahead, isNil, at, beside, Every, mapE, Node, parts, opened, touch, kid, fillRight, fillLeft, readyRight, readyLeft}
+use Rattle.tree.specs.Tree.{Pay, Tree, Root, All, over, overRoot, putE, remE, putRoot, only, lower, remRoot}
 use Rattle.tree.specs.Stored.{same, isNew}
 use Rattle.tree.specs.Numbered.{onward}
-use Rattle.tree.specs.Apart.{taking, along, collect, collected, itsPlace, places, In, Distinct, Places-apart}
+use Rattle.tree.specs.Apart.{taking, along, collect, itsPlace, itsLevel, places, often, In, Distinct, Two-each, Two-a-level, Places-apart}
+use Rattle.tree.proofs.News.{tally-append}
 use Rattle.tree.proofs.Kept.{every-append, every-take, every-drop}
 
 abbrev O : Type 0
@@ -207,14 +208,15 @@ module _ (P : Type 0) where
   apart-append (x ∷ xs) ys a b h =
       ((λ q. ⊎-elim (λ k. a .0 k) (λ k. h x (inl refl) k) (in-append x xs ys q)), apart-append xs ys (a .1) b (λ p u v. h p (inr u) v))
 
-  none-old : (l : ℕ) (es : List (ℕ × Pay O P l)) → Olds l es → ps l es ≡ []
-  none-old zero es o = refl
-  none-old (suc l) es o = go (none-old l) (2 * l) es o
+  -- nothing is collected where nothing is new
+  none-old : (Y : Type 0) (g : (l : ℕ) → ℕ → List (ℕ × Pay O P l) → Y) (l : ℕ) (es : List (ℕ × Pay O P l)) → Olds l es → collect P Y g l es ≡ []
+  none-old Y g zero es o = refl
+  none-old Y g (suc l) es o = go (none-old Y g l) (2 * l) es o
     where
-      go : ((es : List (ℕ × Pay O P l)) → Olds l es → ps l es ≡ []) → (i : ℕ) (es : List (ℕ × Tree O P l)) → Olds (suc l) es → line l i es ≡ []
+      go : ((es : List (ℕ × Pay O P l)) → Olds l es → collect P Y g l es ≡ []) → (i : ℕ) (es : List (ℕ × Tree O P l)) → Olds (suc l) es → along (g l) (collect P Y g l) i (2 * l + 1) es ≡ []
       go ih i [] o = refl
       go ih i ((k, (None, xs)) ∷ r) o = absurd (o .0 .0)
-      go ih i ((k, (Some b, xs)) ∷ r) o = ap (λ (z : List ℕ). z ++ line l i r) (ih xs (o .0 .1)) ∙ go ih i r (o .1)
+      go ih i ((k, (Some b, xs)) ∷ r) o = ap (λ (z : List Y). z ++ along (g l) (collect P Y g l) i (2 * l + 1) r) (ih xs (o .0 .1)) ∙ go ih i r (o .1)
 
   -- below level l all places are below 2l
   pub below : (l : ℕ) (es : List (ℕ × Pay O P l)) (p : ℕ) → In p (ps l es) → p < 2 * l
@@ -243,13 +245,13 @@ module _ (P : Type 0) where
   high l i [] a o p h = absurd h
   high l i ((k, (None, xs)) ∷ r) a o p (inl e) = omega arith
   high l i ((k, (None, xs)) ∷ r) a o p (inr h) =
-      ⊎-elim (λ u. absurd (subst (In p) (none-old l xs (o .0)) u)) (λ u. high l (2 * l + 1) r (omega arith) (o .1) p u) (in-append p (ps l xs) (line l (2 * l + 1) r) h)
+      ⊎-elim (λ u. absurd (subst (In p) (none-old ℕ (itsPlace P) l xs (o .0)) u)) (λ u. high l (2 * l + 1) r (omega arith) (o .1) p u) (in-append p (ps l xs) (line l (2 * l + 1) r) h)
   high l i ((k, (Some z, xs)) ∷ r) a o p h =
-      ⊎-elim (λ u. absurd (subst (In p) (none-old l xs (o .0)) u)) (λ u. high l i r a (o .1) p u) (in-append p (ps l xs) (line l i r) h)
+      ⊎-elim (λ u. absurd (subst (In p) (none-old ℕ (itsPlace P) l xs (o .0)) u)) (λ u. high l i r a (o .1) p u) (in-append p (ps l xs) (line l i r) h)
 
   -- a block's places below it, and those on its right
   aside : (l i : ℕ) (xs : List (ℕ × Pay O P l)) (r : List (ℕ × Tree O P l)) → 2 * l ≤ i → (Olds l xs × OneDeep l (Slim l) r) ⊎ (Slim l xs × Every (Shallow l) r) → (p : ℕ) → In p (ps l xs) → In p (line l i r) → ⊥
-  aside l i xs r a (inl d) p u v = subst (In p) (none-old l xs (d .0)) u
+  aside l i xs r a (inl d) p u v = subst (In p) (none-old ℕ (itsPlace P) l xs (d .0)) u
   aside l i xs r a (inr d) p u v = let x = below l xs p u in let y = high l i r a (d .1) p v in omega arith
 
   first-slim : (l : ℕ) (xs : List (ℕ × Pay O P l)) (r : List (ℕ × Tree O P l)) → (Olds l xs × OneDeep l (Slim l) r) ⊎ (Slim l xs × Every (Shallow l) r) → Slim l xs × OneDeep l (Slim l) r
@@ -290,19 +292,95 @@ module _ (P : Type 0) where
       cond-both (eqb (length (r .1 .1)) 15) (suc (r .0), (None, parts None 7 0 (r .1 .1))) r (λ (q : Root O P). Slim (q .0) (putE O P None s a (q .0) (q .1 .1)))
       (λ e. halves-slim s a (r .0) (r .1 .1) (eqb-true (length (r .1 .1)) 15 e) o) (λ e. put-slim s a (r .0) (r .1 .1) o)
 
-  lower-apart : (l : ℕ) (t : Tree O P l) → Slim l (t .1) → Distinct (places P (lower O P l t))
-  lower-apart zero t q = root-apart zero (t .0) (t .1) q
-  lower-apart (suc l) t q = go (t .1) q
+  -- what holds of every slim root holds after a remove
+  lowered : (F : Root O P → Type 0) → ((l : ℕ) (m : O) (es : List (ℕ × Pay O P l)) → Slim l es → F (l, (m, es))) → (l : ℕ) (t : Tree O P l) → Slim l (t .1) → F (lower O P l t)
+  lowered F h zero t q = h zero (t .0) (t .1) q
+  lowered F h (suc l) t q = go (t .1) q
     where
-      go : (es : List (ℕ × Tree O P l)) → Slim (suc l) es → Distinct (places P (only O P l (t .0) es))
-      go [] q = root-apart (suc l) (t .0) [] q
-      go (e ∷ []) q = root-apart l (e .1 .0) (e .1 .1) (first-slim l (e .1 .1) [] (q .1) .0)
-      go (e ∷ d ∷ r) q = root-apart (suc l) (t .0) (e ∷ d ∷ r) q
+      go : (es : List (ℕ × Tree O P l)) → Slim (suc l) es → F (only O P l (t .0) es)
+      go [] q = h (suc l) (t .0) [] q
+      go (e ∷ []) q = h l (e .1 .0) (e .1 .1) (first-slim l (e .1 .1) [] (q .1) .0)
+      go (e ∷ d ∷ r) q = h (suc l) (t .0) (e ∷ d ∷ r) q
 
-pub places-apart : (P : Type 0) → Places-apart P
-places-apart P s t =
+  -- slim, so at most two on a level
+  abbrev ls : (l : ℕ) → List (ℕ × Pay O P l) → List ℕ
+  ls l es = collect P ℕ (itsLevel P) l es
+
+  abbrev row : (l : ℕ) → ℕ → List (ℕ × Tree O P l) → List ℕ
+  row l i es = along (itsLevel P l) (ls l) i (2 * l + 1) es
+
+  often-append : (k : ℕ) (xs ys : List ℕ) → often k (xs ++ ys) ≡ often k xs + often k ys
+  often-append k xs ys = tally-append (λ x. cond (eqb k x) 1 0) xs ys
+
+  -- a block, before what is below it
+  often-same : (k : ℕ) (m : O) (ys : List ℕ) → often k (taking m k ys) ≡ isNew m + often k ys
+  often-same k None ys = ap (λ b. cond b 1 0 + often k ys) (eq-eqb k k refl)
+  often-same k (Some b) ys = omega arith
+
+  often-other : (k x : ℕ) (m : O) (ys : List ℕ) → (k ≡ x → ⊥) → often k (taking m x ys) ≡ often k ys
+  often-other k x None ys n = ap (λ b. cond b 1 0 + often k ys) (ne-eqb k x n) ∙ omega arith
+  often-other k x (Some b) ys n = refl
+
+  -- no block below level l is of level l or above
+  none-high : (l k : ℕ) (es : List (ℕ × Pay O P l)) → l ≤ k → often k (ls l es) ≡ 0
+  none-high zero k es h = refl
+  none-high (suc l) k es h = go (λ es. none-high l k es (omega arith)) (2 * l) es
+    where
+      go : ((es : List (ℕ × Pay O P l)) → often k (ls l es) ≡ 0) → (i : ℕ) (es : List (ℕ × Tree O P l)) → often k (row l i es) ≡ 0
+      go ih i [] = refl
+      go ih i (e ∷ r) =
+          omega (arith, often-append k (taking (e .1 .0) l (ls l (e .1 .1))) (row l (onward (e .1 .0) i (2 * l + 1)) r), often-other k l (e .1 .0) (ls l (e .1 .1)) (λ q. omega (arith, h, q)), ih (e .1 .1), go ih (onward (e .1 .0) i (2 * l + 1)) r)
+
+  -- on their own level they are those on top
+  row-own : (l i : ℕ) (es : List (ℕ × Tree O P l)) → often l (row l i es) ≡ tops es
+  row-own l i [] = refl
+  row-own l i (e ∷ r) =
+      omega (arith, often-append l (taking (e .1 .0) l (ls l (e .1 .1))) (row l (onward (e .1 .0) i (2 * l + 1)) r), often-same l (e .1 .0) (ls l (e .1 .1)), none-high l l (e .1 .1) (omega arith), row-own l (onward (e .1 .0) i (2 * l + 1)) r)
+
+  row-old : (l k i : ℕ) (es : List (ℕ × Tree O P l)) → (k ≡ l → ⊥) → Every (Shallow l) es → often k (row l i es) ≡ 0
+  row-old l k i [] n o = refl
+  row-old l k i (e ∷ r) n o =
+      omega (
+        arith,
+        often-append k (taking (e .1 .0) l (ls l (e .1 .1))) (row l (onward (e .1 .0) i (2 * l + 1)) r),
+        often-other k l (e .1 .0) (ls l (e .1 .1)) n,
+        ap (often k) (none-old ℕ (itsLevel P) l (e .1 .1) (o .0)),
+        row-old l k (onward (e .1 .0) i (2 * l + 1)) r n (o .1),
+      )
+
+  row-deep : (l k i : ℕ) → ((es : List (ℕ × Pay O P l)) → Slim l es → often k (ls l es) ≤ 2) → (es : List (ℕ × Tree O P l)) → (k ≡ l → ⊥) → OneDeep l (Slim l) es → often k (row l i es) ≤ 2
+  row-deep l k i ih [] n d = omega arith
+  row-deep l k i ih (e ∷ r) n d =
+      let j : ℕ = onward (e .1 .0) i (2 * l + 1) in
+      let x = often-append k (taking (e .1 .0) l (ls l (e .1 .1))) (row l j r) in
+      let y = often-other k l (e .1 .0) (ls l (e .1 .1)) n in
+      ⊎-elim
+      (λ u. let z = ap (often k) (none-old ℕ (itsLevel P) l (e .1 .1) (u .0)) in let w = row-deep l k j ih r n (u .1) in omega arith)
+      (λ u. let z = ih (e .1 .1) (u .0) in let w = row-old l k j r n (u .1) in omega arith) d
+
+  slim-two : (l k : ℕ) (es : List (ℕ × Pay O P l)) → Slim l es → often k (ls l es) ≤ 2
+  slim-two zero k es q = omega arith
+  slim-two (suc l) k es q =
+      ⊎-elim (λ e. let x = row-own l (2 * l) es in let y = q .0 in let z = ap (λ j. often j (row l (2 * l) es)) e in omega arith)
+      (λ n. row-deep l k (2 * l) (slim-two l k) es n (q .1)) (cases-eq k l)
+
+  root-two : (l : ℕ) (m : O) (es : List (ℕ × Pay O P l)) → Slim l es → Two-each P (l, (m, es))
+  root-two l m es q =
+      let own : often l (taking m l (ls l es)) ≤ 1 = omega (arith, often-same l m (ls l es), none-high l l es (omega arith), new-one m) in
+      ((λ k. ⊎-elim (λ e. let z = ap (λ j. often j (taking m l (ls l es))) e in omega arith) (λ n. let x = often-other k l m (ls l es) n in let y = slim-two l k es q in omega arith) (cases-eq k l)), own)
+
+-- What holds of every slim root holds after a put and after a remove.
+both : (P : Type 0) (F : Root O P → Type 0) → ((l : ℕ) (m : O) (es : List (ℕ × Pay O P l)) → Slim P l es → F (l, (m, es))) → (s : ℕ) (t : Root ℕ P)
+    → ((a : P) → F (putRoot O P None s a (overRoot Some same t))) × F (remRoot O P None s (overRoot Some same t))
+both P F h s t =
     let r : Root O P = overRoot Some same t in
     let o = old-over P (suc (t .0)) (t .1) .1 in (
-      (λ a. root-apart P (putRoot O P None s a r .0) None (putRoot O P None s a r .1 .1) (put-root P s a r o)),
-      lower-apart P (t .0) (None, remE O P None s (t .0) (r .1 .1)) (rem-slim P s (t .0) (r .1 .1) o),
+      (λ a. h (putRoot O P None s a r .0) None (putRoot O P None s a r .1 .1) (put-root P s a r o)),
+      lowered P F h (t .0) (None, remE O P None s (t .0) (r .1 .1)) (rem-slim P s (t .0) (r .1 .1) o),
     )
+
+pub places-apart : (P : Type 0) → Places-apart P
+places-apart P s t = both P (λ r. Distinct (places P r)) (root-apart P) s t
+
+pub two-a-level : (P : Type 0) → Two-a-level P
+two-a-level P s t = both P (Two-each P) (root-two P) s t

@@ -1,14 +1,13 @@
 -- For code that finds the child by its index.
-use mathlib.Core.Path.{_≡_, refl, ap, ap₂, sym, _∙_, subst}
+use mathlib.Core.Path.{_≡_, refl, ap}
 use mathlib.Core.List.{List, [], _∷_, _++_}
-use mathlib.Core.Bool.{Bool, true, false, cond}
-use Prim.Native.Nat.{ℕ, zero, suc, _≤_, _<_, _+_, _*_, _-_}
+use mathlib.Core.Bool.{true, false}
+use Prim.Native.Nat.{ℕ, zero, suc, _≤_, _<_, _+_, _-_}
 use native.Mathlib.Omega.{arith}
 use native.Mathlib.Nat.{not-suc-le-zero}
 use lib.ListN.{length, take, drop, getD}
-use lib.Dec.{ltb, eqb}
-use Rattle.std.proofs.shelf.Tests.{cond-both, lt-ltb, le-ltb, true≢false}
-use Rattle.tree.specs.Node.{ahead, isNil, first, at, beside, Seg}
+use Rattle.std.proofs.shelf.Tests.{lt-ltb, le-ltb}
+use Rattle.tree.specs.Node.{ahead, isNil, at, beside, Seg}
 
 module _ {X : Type 0} (W : ℕ → ℕ → X → Type 0) (wle : (k m : ℕ) (x : X) → W k m x → k ≤ m) where
   pub seg-key : (lo hi : ℕ) (es : List (ℕ × X)) (i : ℕ) (d : ℕ × X) → Seg _≡_ W lo hi es → i < length es → lo ≤ getD es i d .0
@@ -20,11 +19,11 @@ module _ {X : Type 0} (W : ℕ → ℕ → X → Type 0) (wle : (k m : ℕ) (x :
   not-nil [] h = absurd (not-suc-le-zero h)
   not-nil (x ∷ r) h = refl
 
-  ahead-yes : (s : ℕ) (e : ℕ × X) (r : List (ℕ × X)) (d : ℕ × X) → (1 < length (e ∷ r) → s < getD (e ∷ r) 1 d .0) → ahead s r ≡ true
+  pub ahead-yes : (s : ℕ) (e : ℕ × X) (r : List (ℕ × X)) (d : ℕ × X) → (1 < length (e ∷ r) → s < getD (e ∷ r) 1 d .0) → ahead s r ≡ true
   ahead-yes s e [] d h = refl
   ahead-yes s e (x ∷ r) d h = lt-ltb s (x .0) (h (omega arith))
 
-  ahead-no : (s m hi : ℕ) (r : List (ℕ × X)) (i : ℕ) (d : ℕ × X) → Seg _≡_ W m hi r → i < length r → getD r i d .0 ≤ s → ahead s r ≡ false
+  pub ahead-no : (s m hi : ℕ) (r : List (ℕ × X)) (i : ℕ) (d : ℕ × X) → Seg _≡_ W m hi r → i < length r → getD r i d .0 ≤ s → ahead s r ≡ false
   ahead-no s m hi [] i d p h k = absurd (not-suc-le-zero h)
   ahead-no s m hi (x ∷ r) i d p h k = le-ltb s (x .0) (omega (arith, p .0, k, seg-key m hi (x ∷ r) i d p h))
 

@@ -1,14 +1,13 @@
 -- What is not written anew is as it was.
-use mathlib.Core.Path.{_≡_, refl, ap, sym, _∙_, subst}
+use mathlib.Core.Path.{_≡_, refl, sym, subst}
 use mathlib.Core.List.{List, [], _∷_, _++_}
-use mathlib.Core.Bool.{Bool, true, false, cond}
-use Prim.Native.Nat.{ℕ, zero, suc, _≤_, _<_, _+_, _*_, _-_}
+use Prim.Native.Nat.{ℕ, zero, suc, _+_, _-_}
 use mathlib.Core.Logic.{_⊎_, inl, inr, ⊎-elim}
 use lib.ListN.{length, take, drop}
 use lib.Dec.{ltb, eqb}
 use Rattle.std.proofs.shelf.Tests.{cond-both}
-use Rattle.tree.specs.Node.{ins, del, ahead, isNil, first, at, beside, Every, Any, Node, parts, opened, touch, kid, fillRight, fillLeft, readyRight, readyLeft, shrink}
-use Rattle.tree.specs.Tree.{Pay, Tree, All, putE, remE, Root, raise, putRoot, only, lower, remRoot, Kept, Occurs, Unaltered}
+use Rattle.tree.specs.Node.{ins, del, ahead, isNil, at, beside, Every, Any, parts, opened, touch, kid, readyRight, readyLeft}
+use Rattle.tree.specs.Tree.{Pay, Tree, All, putE, remE, Root, putRoot, only, lower, remRoot, Kept, Occurs, Unaltered}
 
 module _ {X : Type 0} (F : X → Type 0) where
   pub every-append : (xs ys : List (ℕ × X)) → Every F xs → Every F ys → Every F (xs ++ ys)
@@ -93,12 +92,17 @@ module _ (M P : Type 0) (new : M) (Q : (l : ℕ) → Tree M P l → Type 0) (wri
       go (e ∷ []) a b = a .0
       go (e ∷ d ∷ r) a b = b
 
+-- of remove alone
+pub rem-kept : (M P : Type 0) (new : M) (Q : (l : ℕ) → Tree M P l → Type 0) → ((l : ℕ) (es : List (ℕ × Pay M P l)) → Q l (new, es)) → (s : ℕ) (r : Root M P) → All M P Q (suc (r .0)) (r .1)
+    → All M P Q (suc (remRoot M P new s r .0)) (remRoot M P new s r .1)
+rem-kept M P new Q written s r p = lower-all M P new Q written s (r .0) (new, remE M P new s (r .0) (r .1 .1)) (written _ _, rem-every M P new Q written s (r .0) (r .1 .1) (p .1))
+
 pub kept : (M P : Type 0) → Kept M P
 kept M P new Q written s a r p = (
   cond-both (eqb (length (r .1 .1)) 15) (suc (r .0), (new, parts new 7 0 (r .1 .1))) r (λ (q : Root M P). All M P Q (suc (q .0)) (new, putE M P new s a (q .0) (q .1 .1)))
       (λ u. (written _ _, put-every M P new Q written s a (suc (r .0)) (parts new 7 0 (r .1 .1)) (every-parts M P new Q written s (r .0) 7 0 (r .1 .1) (p .1))))
       (λ u. (written _ _, put-every M P new Q written s a (r .0) (r .1 .1) (p .1))),
-  lower-all M P new Q written s (r .0) (new, remE M P new s (r .0) (r .1 .1)) (written _ _, rem-every M P new Q written s (r .0) (r .1 .1) (p .1)),
+  rem-kept M P new Q written s r p,
 )
 
 module _ (M P : Type 0) where

@@ -1,12 +1,12 @@
-use mathlib.Core.Path.{_≡_, refl, ap, ap₂, sym, _∙_, subst}
-use mathlib.Core.List.{List, [], _∷_, _++_}
-use Prim.Native.Nat.{ℕ, zero, suc, _≤_, _<_, _+_, _*_, _-_}
+use mathlib.Core.Path.{_≡_, refl, subst}
+use mathlib.Core.List.{List, [], _∷_}
+use Prim.Native.Nat.{ℕ, zero, suc, _≤_, _<_, _-_}
 use native.Mathlib.Omega.{arith}
-use native.Mathlib.Nat.{not-suc-le-zero, le-refl}
+use native.Mathlib.Nat.{not-suc-le-zero}
 use lib.ListN.{length}
 use Rattle.tree.specs.Node.{Seg, Asc}
-use Rattle.tree.specs.Tree.{Pay, Tree, Gap, Enough, Cell, Span, Wf}
-use Rattle.tree.specs.Layout.{next, Ascends, Start, Child, Laid, Same-rule}
+use Rattle.tree.specs.Tree.{Tree, Cell}
+use Rattle.tree.specs.Layout.{next, Ascends, Start, Child, Same-rule}
 
 -- leaves
 module _ {P : Type 0} where

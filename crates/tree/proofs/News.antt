@@ -1,14 +1,13 @@
 -- How many blocks are new.
-use mathlib.Core.Path.{_≡_, refl, ap, sym, _∙_, subst}
-use mathlib.Core.List.{List, [], _∷_, _++_, append-assoc, append-nil}
-use mathlib.Core.Bool.{Bool, true, false, cond}
-use Prim.Native.Nat.{ℕ, zero, suc, _≤_, _<_, _+_, _*_, _-_}
+use mathlib.Core.Path.{_≡_, refl, ap, sym, _∙_}
+use mathlib.Core.List.{List, [], _∷_, _++_}
+use Prim.Native.Nat.{ℕ, zero, suc, _≤_, _+_, _*_, _-_}
 use native.Mathlib.Omega.{arith}
-use lib.ListN.{length, take, drop, length-append, length-take, length-drop, take-append-drop}
+use lib.ListN.{length, take, drop, length-take, length-drop, take-append-drop}
 use lib.Dec.{ltb, eqb}
-use Rattle.std.proofs.shelf.Tests.{cond-both, eqb-true, eqb-false}
-use Rattle.tree.specs.Node.{ins, del, ahead, isNil, first, at, beside, flat, tally, Every, Node, parts, opened, touch, kid, fillRight, fillLeft, readyRight, readyLeft, shrink}
-use Rattle.tree.specs.Tree.{Pay, Tree, Marks, blocks, putE, remE, Wf, Root, raise, putRoot, only, lower, remRoot, Few-new}
+use Rattle.std.proofs.shelf.Tests.{cond-both, eqb-true}
+use Rattle.tree.specs.Node.{ins, del, ahead, isNil, first, at, beside, flat, tally, Every, parts, touch, kid, readyRight, readyLeft}
+use Rattle.tree.specs.Tree.{Pay, Tree, Marks, blocks, putE, remE, Root, putRoot, only, lower, remRoot, Few-new}
 use Rattle.tree.proofs.Segs.{flat-append}
 
 pub tally-append : {Y : Type 0} (c : Y → ℕ) (xs ys : List Y) → tally c (xs ++ ys) ≡ tally c xs + tally c ys
@@ -175,7 +174,7 @@ module _ (M P : Type 0) (new : M) (c : M → ℕ) (one : c new ≡ 1) (s : ℕ) 
       (λ u. omega (arith, one, raised-news a (r .0) (r .1 .1) (eqb-true (length (r .1 .1)) 15 u)))
       (λ u. omega (arith, one, put-news a (r .0) (r .1 .1)))
 
-  rem-root-news : (r : Root M P) → tally c (blocks M P (remRoot M P new s r .0) (remRoot M P new s r .1)) ≤ tally c (blocks M P (r .0) (r .1)) + (2 * suc (r .0) + 1)
+  pub rem-root-news : (r : Root M P) → tally c (blocks M P (remRoot M P new s r .0) (remRoot M P new s r .1)) ≤ tally c (blocks M P (r .0) (r .1)) + (2 * suc (r .0) + 1)
   rem-root-news r = omega (arith, one, lower-tally (r .0) (new, remE M P new s (r .0) (r .1 .1)), rem-news (r .0) (r .1 .1))
 
 pub few-new : (M P : Type 0) → Few-new M P

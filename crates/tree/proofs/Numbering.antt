@@ -1,15 +1,15 @@
 -- The numbers of new blocks.
-use mathlib.Core.Path.{_≡_, refl, ap, ap₂, sym, _∙_, subst}
+use mathlib.Core.Path.{_≡_, refl, ap, ap₂}
 use mathlib.Core.List.{List, [], _∷_}
 use mathlib.Core.Bool.{Bool, true, false, cond}
 use Prim.Native.Nat.{ℕ, zero, suc, _+_, _*_, _≤_}
 use native.Mathlib.Omega.{arith}
 use Rattle.std.specs.declared.option.Option.{Option}
 use Rattle.std.specs.declared.option.Option.the-variants.{Some, None}
-use Rattle.tree.specs.Node.{Node, mapE, Every}
+use Rattle.tree.specs.Node.{mapE, Every}
 use Rattle.tree.specs.Tree.{Pay, Tree, Root, All, over, overRoot}
 use Rattle.tree.specs.Stored.{forget, same}
-use Rattle.tree.specs.Numbered.{numberOr, onward, beside, numbers, numbered, Known, bare, Shape-kept, Numbers-natural, Numbers-from, Erased}
+use Rattle.tree.specs.Numbered.{numberOr, onward, beside, numbers, Known, bare, Shape-kept, Numbers-natural, Numbers-from, Erased}
 
 -- the shape
 module _ (P : Type 0) (pick : ℕ → ℕ) where
@@ -27,9 +27,6 @@ shape-kept P pick r = ap (λ (x : List (ℕ × Pay (Unit {0}) P (r .0))). (r .0,
 
 -- naturality
 module _ (P P′ : Type 0) (pick : ℕ → ℕ) (f : P → P′) where
-  number-same : (x : ℕ) (m : Option ℕ) → numberOr x m ≡ numberOr x (same m)
-  number-same x m = refl
-
   natural-numbers : (l : ℕ) (es : List (ℕ × Pay (Option ℕ) P l)) → mapE (over {M = ℕ} same f l) (numbers P pick l es) ≡ numbers P′ pick l (mapE (over {M = Option ℕ} same f l) es)
   natural-numbers zero es = refl
   natural-numbers (suc l) es = go (natural-numbers l) (2 * l) es

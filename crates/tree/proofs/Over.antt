@@ -1,14 +1,12 @@
 -- Marks and values do not steer put and remove.
-use mathlib.Core.Path.{_≡_, refl, ap, ap₂, sym, _∙_, subst}
+use mathlib.Core.Path.{_≡_, refl, ap, _∙_}
 use mathlib.Core.List.{List, [], _∷_, _++_}
 use mathlib.Core.Bool.{Bool, true, false, cond}
-use Prim.Native.Nat.{ℕ, zero, suc, _≤_, _<_, _+_, _*_, _-_}
-use native.Mathlib.Omega.{arith}
+use Prim.Native.Nat.{ℕ, zero, suc, _+_, _-_}
 use lib.ListN.{length, take, drop}
 use lib.Dec.{ltb, eqb}
-use Rattle.std.proofs.shelf.Tests.{cond-both}
-use Rattle.tree.specs.Node.{ins, del, ahead, isNil, first, at, beside, Seg, flat, mapE, Node, parts, opened, touch, kid, fillRight, fillLeft, readyRight, readyLeft, shrink}
-use Rattle.tree.specs.Tree.{Pay, Tree, Gap, Enough, Rows, rows, Cell, Span, Wf, over, overRoot, putE, remE, Root, raise, putRoot, only, lower, remRoot, Natural, Over-rows}
+use Rattle.tree.specs.Node.{ins, del, ahead, isNil, first, at, beside, Seg, flat, mapE, parts, opened, touch, kid, readyRight, readyLeft}
+use Rattle.tree.specs.Tree.{Pay, Tree, Gap, Rows, Cell, over, overRoot, putE, remE, Root, raise, putRoot, only, lower, remRoot, Natural, Over-rows}
 
 pub cond-map : {A B : Type 0} (h : A → B) (b : Bool) (x y : A) (u v : B) → h x ≡ u → h y ≡ v → h (cond b x y) ≡ cond b u v
 cond-map h true x y u v p q = p
@@ -37,7 +35,7 @@ module _ {X Y : Type 0} (F : X → Y) where
   map-first [] = refl
   map-first (e ∷ r) = refl
 
-  map-ahead : (s : ℕ) (xs : List (ℕ × X)) → ahead s (mapE F xs) ≡ ahead s xs
+  pub map-ahead : (s : ℕ) (xs : List (ℕ × X)) → ahead s (mapE F xs) ≡ ahead s xs
   map-ahead s [] = refl
   map-ahead s (e ∷ r) = refl
 
@@ -136,7 +134,7 @@ module _ {M P M′ P′ : Type 0} (g : M → M′) (f : P → P′) (new : M) (s
       (cond-map (overRoot g f) (eqb (length (r .1 .1)) 15) (suc (r .0), (new, parts new 7 0 (r .1 .1))) r _ _
       (ap (λ (z : List (ℕ × Tree M′ P′ (r .0))). rootOf (suc (r .0)) (g new) z) (on-parts (r .0) 7 0 (r .1 .1))) refl)
 
-  on-only : (l : ℕ) (m : M) (es : List (ℕ × Tree M P l)) → overRoot g f (only M P l m es) ≡ only M′ P′ l (g m) (on (suc l) es)
+  pub on-only : (l : ℕ) (m : M) (es : List (ℕ × Tree M P l)) → overRoot g f (only M P l m es) ≡ only M′ P′ l (g m) (on (suc l) es)
   on-only l m [] = refl
   on-only l m (e ∷ []) = refl
   on-only l m (e ∷ d ∷ r) = refl

@@ -1,16 +1,15 @@
 -- put keeps a tree well formed and sets one row.
-use mathlib.Core.Path.{_≡_, refl, ap, sym, _∙_, subst}
-use mathlib.Core.List.{List, [], _∷_, _++_, append-assoc, append-nil}
-use mathlib.Core.Bool.{Bool, true, false, cond}
+use mathlib.Core.Path.{_≡_, refl, ap, sym, _∙_}
+use mathlib.Core.List.{List, [], _∷_, _++_, append-nil}
 use Prim.Native.Nat.{ℕ, zero, suc, _≤_, _<_, _+_, _*_, _-_}
 use native.Mathlib.Omega.{arith}
-use native.Mathlib.Nat.{not-suc-le-zero, le-trans, le-refl, mul-le-mul-right}
-use lib.ListN.{length, take, drop, length-append, length-take, length-drop, take-append-drop}
-use lib.Dec.{ltb, eqb}
+use native.Mathlib.Nat.{le-trans, le-refl, mul-le-mul-right}
+use lib.ListN.{length, take, drop, length-take, length-drop, take-append-drop}
+use lib.Dec.{eqb}
 use Rattle.std.proofs.shelf.Tests.{cond-both, eqb-true, eqb-false}
-use Rattle.tree.specs.Node.{ins, del, ahead, first, at, Seg, Asc, flat, Node, parts, opened, touch, kid}
-use Rattle.tree.specs.Tree.{Pay, Tree, Gap, Enough, Rows, rows, Cell, Span, putE, put, Wf, Root, raise, putRoot, Put-sound, Five-high}
-use Rattle.tree.proofs.Segs.{seg-join, seg-cut, seg-weak, at-seg, at-length, at-same, ins-length, ins-asc, ins-left, ins-right, seg-asc, at-rows, flat-append, Left, Right, asc-length, flat-least}
+use Rattle.tree.specs.Node.{ins, first, Seg, Asc, flat, parts, opened, touch, kid}
+use Rattle.tree.specs.Tree.{Pay, Tree, Gap, Enough, Rows, rows, Cell, Span, putE, Wf, Root, raise, Put-sound, Five-high}
+use Rattle.tree.proofs.Segs.{seg-cut, seg-weak, at-seg, at-length, at-same, ins-length, ins-asc, ins-left, ins-right, seg-asc, at-rows, flat-append, asc-length, flat-least}
 
 pub gap-refl : (l a : ℕ) → Gap l a a
 gap-refl zero a = le-refl a

@@ -1,17 +1,16 @@
 -- remove keeps a tree well formed and clears one row.
 use mathlib.Core.Path.{_≡_, refl, ap, sym, _∙_, subst, subst₂}
 use mathlib.Core.List.{List, [], _∷_, _++_, append-assoc, append-nil}
-use mathlib.Core.Bool.{Bool, true, false, cond}
-use Prim.Native.Nat.{ℕ, zero, suc, _≤_, _<_, _+_, _*_, _-_}
+use Prim.Native.Nat.{ℕ, zero, suc, _≤_, _<_, _+_, _-_}
 use native.Mathlib.Omega.{arith}
-use native.Mathlib.Nat.{not-suc-le-zero, le-trans, le-refl}
+use native.Mathlib.Nat.{not-suc-le-zero}
 use lib.ListN.{length, take, drop, length-append, length-take, length-drop, take-append-drop}
-use lib.Dec.{ltb, eqb}
+use lib.Dec.{eqb}
 use Rattle.std.proofs.shelf.Tests.{cond-both, eqb-true, eqb-false}
-use Rattle.tree.specs.Node.{ins, del, ahead, first, at, Seg, Asc, flat, Node, parts, touch, fillRight, fillLeft, readyRight, readyLeft, shrink}
-use Rattle.tree.specs.Tree.{Pay, Tree, Gap, Enough, Rows, rows, Cell, Span, Wf, Root, remE, only, lower, remRoot, Remove-sound}
-use Rattle.tree.proofs.Segs.{seg-join, seg-cut, seg-weak, seg-le, at-seg, at-same, at-rows, flat-append, del-left, del-right, del-asc, del-length, beside-seg, beside-rows, beside-length}
-use Rattle.tree.proofs.Puts.{gap-refl, gap-trans, gap-le, enough, flat-id, cell-asc, span-asc, span-cut, Fit}
+use Rattle.tree.specs.Node.{del, first, at, Seg, Asc, flat, touch, readyRight, readyLeft, shrink}
+use Rattle.tree.specs.Tree.{Pay, Tree, Gap, Enough, Rows, rows, Cell, Span, Wf, remE, only, lower, Remove-sound}
+use Rattle.tree.proofs.Segs.{seg-join, seg-le, at-seg, at-same, at-rows, flat-append, del-left, del-right, del-asc, del-length, beside-seg, beside-rows, beside-length}
+use Rattle.tree.proofs.Puts.{gap-trans, gap-le, enough, flat-id, cell-asc, span-cut}
 
 module _ (M P : Type 0) where
   pub cell-le : (l k m : ℕ) (x : Pay M P l) → Cell M P l k m x → k ≤ m

@@ -2,12 +2,12 @@
 use mathlib.Core.Path.{_≡_, refl, ap, sym, _∙_, subst}
 use mathlib.Core.List.{List, [], _∷_, _++_, append-assoc, append-nil}
 use mathlib.Core.Bool.{Bool, true, false, cond}
-use Prim.Native.Nat.{ℕ, zero, suc, _≤_, _<_, _+_, _*_, _-_}
+use Prim.Native.Nat.{ℕ, suc, _≤_, _<_, _+_, _*_, _-_}
 use native.Mathlib.Omega.{arith}
-use native.Mathlib.Nat.{not-suc-le-zero, le-trans, zero-mul, suc-mul, mul-le-mul}
-use lib.ListN.{length, take, drop, length-append, length-take, length-drop, take-append-drop}
+use native.Mathlib.Nat.{not-suc-le-zero, le-trans, zero-mul, suc-mul}
+use lib.ListN.{length, length-append}
 use lib.Dec.{ltb, eqb}
-use Rattle.std.proofs.shelf.Tests.{cond-both, lt-ltb, le-ltb, ne-eqb, eq-eqb, ltb-true, ltb-false, eqb-true, eqb-false, both-ways, true≢false}
+use Rattle.std.proofs.shelf.Tests.{cond-both, lt-ltb, le-ltb, ne-eqb, ltb-true, ltb-false, true≢false}
 use Rattle.tree.specs.Node.{ins, del, ahead, first, at, Seg, Asc, flat, isNil, beside}
 
 module _ {X : Type 0} (G : ℕ → ℕ → Type 0) (W : ℕ → ℕ → X → Type 0) where

@@ -1,18 +1,17 @@
--- Trees on numbered blocks.
-use mathlib.Core.Path.{_≡_, refl, ap, ap₂, sym, _∙_, subst}
-use mathlib.Core.List.{List, [], _∷_, _++_}
+-- Put and remove on numbered blocks.
+use mathlib.Core.Path.{_≡_, refl, ap, sym, _∙_, subst}
+use mathlib.Core.List.{List, [], _∷_}
 use mathlib.Core.Bool.{Bool, true, false, cond}
 use Rattle.std.specs.declared.option.Option.{Option}
 use Rattle.std.specs.declared.option.Option.the-variants.{Some, None}
-use Prim.Native.Nat.{ℕ, zero, suc, _≤_, _<_, _+_, _*_, _-_}
+use Prim.Native.Nat.{ℕ, zero, suc, _≤_, _+_, _*_, _-_}
 use native.Mathlib.Omega.{arith}
-use lib.ListN.{length, take, drop}
-use Rattle.tree.specs.Node.{ins, del, first, at, Seg, flat, tally, Every, Any, mapE, Node}
-use Rattle.tree.specs.Tree.{Pay, Tree, Root, rows, Rows, Wf, Marks, blocks, All, over, overRoot, putRoot, remRoot}
-use Rattle.tree.specs.Stored.{Content, leaf, index, content, Stored, Numbers, forget, same, isNew, isFresh, IsPut, IsRemove, Put-numbered, Remove-numbered, One-tree, Frame}
+use Rattle.tree.specs.Node.{ins, del, flat, tally, Every, mapE}
+use Rattle.tree.specs.Tree.{Pay, Tree, Root, rows, Wf, Marks, blocks, All, over, overRoot}
+use Rattle.tree.specs.Stored.{forget, same, isNew, isFresh, Put-numbered, Remove-numbered}
 use Rattle.tree.proofs.Puts.{put-sound}
 use Rattle.tree.proofs.Removes.{remove-sound}
-use Rattle.tree.proofs.News.{few-new, tally-append}
+use Rattle.tree.proofs.News.{few-new, rem-root-news, tally-append}
 use Rattle.tree.proofs.Over.{over-rows}
 
 -- two properties of each block
@@ -24,37 +23,6 @@ module _ (M P : Type 0) (A B C : (l : ℕ) → Tree M P l → Type 0) (h : (l : 
       go : ((p : Pay M P l) → All M P A l p → All M P B l p → All M P C l p) → (es : List (ℕ × Pay M P l)) → Every (All M P A l) es → Every (All M P B l) es → Every (All M P C l) es
       go ih [] a b = tt
       go ih (e ∷ r) a b = (ih (e .1) (a .0) (b .0), go ih r (a .1) (b .1))
-
-pub frame : (P : Type 0) → Frame P
-frame P st st′ l t a b = all-both ℕ P (λ i u. st (u .0) ≡ Some (content P i u)) (λ i u. st′ (u .0) ≡ st (u .0)) (λ i u. st′ (u .0) ≡ Some (content P i u)) (λ i u p q. q ∙ p) (suc l) t a b
-
-pair : {X : Type 0} (m n : ℕ) (xs ys : List (ℕ × X)) → m ≡ n → xs ≡ ys → _≡_ {A = ℕ × List (ℕ × X)} (m, xs) (n, ys)
-pair {X} m n xs ys p q = ap₂ {C = ℕ × List (ℕ × X)} (λ (m : ℕ) (xs : List (ℕ × X)). (m, xs)) p q
-
-leaf-same : {P : Type 0} (xs ys : List (ℕ × P)) → _≡_ {A = Option (Content P)} (Some (leaf xs)) (Some (leaf ys)) → xs ≡ ys
-leaf-same xs ys p = cc
-
-index-same : {P : Type 0} (k : ℕ) (xs ys : List (ℕ × ℕ)) → _≡_ {A = Option (Content P)} (Some (index k xs)) (Some (index k ys)) → xs ≡ ys
-index-same k xs ys p = cc
-
--- equal lists of separators and numbers, and one tree for each number
-kids-same : {X : Type 0} (S : (ℕ × X) → Type 0) → ((x y : ℕ × X) → S x → S y → x .0 ≡ y .0 → x ≡ y) → (xs ys : List (ℕ × (ℕ × X))) → mapE (λ c. c .0) xs ≡ mapE (λ c. c .0) ys → Every S xs → Every S ys → xs ≡ ys
-kids-same S h [] [] p a b = refl
-kids-same S h [] (d ∷ r) p a b = let z : _≡_ {A = ℕ} 0 1 = cc in absurd (omega arith)
-kids-same S h (e ∷ q) [] p a b = let z : _≡_ {A = ℕ} 0 1 = cc in absurd (omega arith)
-kids-same {X} S h (e ∷ q) (d ∷ r) p a b =
-    let k : _≡_ {A = ℕ × ℕ} (e .0, e .1 .0) (d .0, d .1 .0) = cc in
-    let i : mapE (λ c. c .0) q ≡ mapE (λ c. c .0) r = cc in
-    ap₂ (λ (x : ℕ × (ℕ × X)) (y : List (ℕ × (ℕ × X))). x ∷ y) (two (ap (λ (z : ℕ × ℕ). z .0) k) (h (e .1) (d .1) (a .0) (b .0) (ap (λ (z : ℕ × ℕ). z .1) k))) (kids-same S h q r i (a .1) (b .1))
-  where
-    two : e .0 ≡ d .0 → e .1 ≡ d .1 → e ≡ d
-    two p q = ap₂ {C = ℕ × (ℕ × X)} (λ (m : ℕ) (x : ℕ × X). (m, x)) p q
-
-pub one-tree : (P : Type 0) → One-tree P
-one-tree P st zero t u a b e = pair (t .0) (u .0) (t .1) (u .1) e (leaf-same (t .1) (u .1) (sym (a .0) ∙ ap st e ∙ b .0))
-one-tree P st (suc l) t u a b e =
-    pair (t .0) (u .0) (t .1) (u .1) e
-    (kids-same (Stored P st (suc l)) (one-tree P st l) (t .1) (u .1) (index-same (suc l) _ _ (sym (a .0) ∙ ap st e ∙ b .0)) (a .1) (b .1))
 
 -- counts over other marks
 module _ {M P M′ P′ : Type 0} (g : M → M′) (f : P → P′) (c : M → ℕ) (c′ : M′ → ℕ) (h : (m : M) → c′ (g m) ≡ c m) where
@@ -98,13 +66,13 @@ put-numbered P fresh s a t u h w e =
     )
 
 pub remove-numbered : (P : Type 0) → Remove-numbered P
-remove-numbered P fresh s a t u h w e =
+remove-numbered P fresh s t u h w e =
     let O = Option ℕ in
     let t′ : Root O P = overRoot Some same t in
     let v = over-rows ℕ P O P Some same t in
     let x = over-rows ℕ P O P (forget fresh) same u in
     let S = remove-sound O P None s t′ h (v .1 w) in
-    let n = few-new O P None isNew refl s a t′ (v .1 w) .1 in
+    let n = rem-root-news O P None isNew refl s t′ in
     let n′ : tally isNew (blocks O P (u .0) (overRoot (forget fresh) same u .1)) ≤ tally isNew (blocks O P (t .0) (t′ .1)) + (2 * suc (t .0) + 1)
     = subst (λ (z : Root O P). tally isNew (blocks O P (z .0) (z .1)) ≤ tally isNew (blocks O P (t .0) (t′ .1)) + (2 * suc (t .0) + 1)) (sym e) n in (
       x .2 (subst (λ (z : Root O P). Wf O P (z .0) (z .1)) (sym e) (S .0)),

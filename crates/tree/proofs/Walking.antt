@@ -1,19 +1,22 @@
-use mathlib.Core.Path.{_≡_, refl, ap, ap₂, sym, _∙_, subst}
-use mathlib.Core.List.{List, [], _∷_, _++_, append-nil}
+-- Reading by descent, by a walk and by a summary, and what the rows say.
+use mathlib.Core.Path.{_≡_, refl, ap, ap₂, sym, _∙_}
+use mathlib.Core.List.{List, [], _∷_, _++_}
 use mathlib.Core.Bool.{Bool, true, false, cond}
+use mathlib.Core.Logic.{_⊎_, inl, inr}
 use Rattle.std.specs.declared.option.Option.{Option}
 use Rattle.std.specs.declared.option.Option.the-variants.{Some, None}
-use Prim.Native.Nat.{ℕ, zero, suc, _≤_, _<_, _+_, _*_, _-_}
+use Prim.Native.Nat.{ℕ, zero, suc, _≤_, _<_, _+_, _-_}
 use native.Mathlib.Omega.{arith}
 use native.Mathlib.Nat.{not-suc-le-zero}
-use lib.ListN.{length, take, drop}
+use lib.ListN.{length}
 use lib.Dec.{ltb, eqb}
-use Rattle.std.proofs.shelf.Tests.{cond-both, ne-eqb, true≢false}
-use Rattle.tree.specs.Node.{ahead, flat, Seg, Asc, Node}
-use Rattle.tree.specs.Tree.{Pay, Tree, Root, Gap, Enough, Cell, Span, Rows, rows, Wf}
-use Rattle.tree.specs.Reads.{look, seek, run, total, getE, walkE, totalE, Reads, Walks, Sums}
-use Rattle.tree.proofs.Segs.{ahead-below, ahead-above, asc-le, seg-asc}
-use Rattle.tree.proofs.Puts.{cell-asc, span-asc, flat-id, enough}
+use Rattle.std.proofs.shelf.Tests.{cond-both, ne-eqb, eq-eqb, eqb-true, eqb-false, ltb-true, ltb-false, cases-eq, true≢false}
+use Rattle.tree.specs.Node.{ins, del, ahead, flat, Asc}
+use Rattle.tree.specs.Tree.{Pay, Tree, Enough, Cell, Span, Rows, rows}
+use Rattle.tree.specs.Reads.{look, seek, run, total, getE, walkE, totalE, Reads, Walks, Sums, Looks}
+use Rattle.tree.proofs.Segs.{ahead-below, ahead-above, asc-le}
+use Rattle.tree.proofs.Puts.{cell-asc, span-asc, flat-id, enough, put-sound}
+use Rattle.tree.proofs.Removes.{remove-sound}
 
 look-left : {P : Type 0} (s lo m : ℕ) (xs ys : List (ℕ × P)) → Asc lo m xs → m ≤ s → look s (xs ++ ys) ≡ look s ys
 look-left s lo m [] ys p h = refl
@@ -85,3 +88,55 @@ module _ {S : Type 0} (z : S) (op : S → S → S) (unit : (x : S) → op z x �
 
 pub sums : (M P S : Type 0) → Sums M P S
 sums M P S z op unit assoc f r = total-rows z op unit assoc M P f (r .0) (r .1 .1)
+
+-- Looking up in rows of which one is set or cleared.
+swap : {A : Type 0} (p q : Bool) (x y z : A) → (p ≡ true → q ≡ true → ⊥) → cond p x (cond q y z) ≡ cond q y (cond p x z)
+swap true true x y z h = absurd (h refl refl)
+swap true false x y z h = refl
+swap false true x y z h = refl
+swap false false x y z h = refl
+
+-- the key of the first row is not both k and s
+apart : (k s e : ℕ) → (s ≡ e → ⊥) → eqb k e ≡ true → eqb k s ≡ true → ⊥
+apart k s e n a b = n (sym (eqb-true k s b) ∙ eqb-true k e a)
+
+over-same : {A : Type 0} (k s e : ℕ) (x y z : A) → e ≡ s → cond (eqb k s) x z ≡ cond (eqb k s) x (cond (eqb k e) y z)
+over-same k s e x y z h = rw h (go (eqb k s))
+  where
+    go : (b : Bool) → cond b x z ≡ cond b x (cond b y z)
+    go true = refl
+    go false = refl
+
+module _ {P : Type 0} (s k : ℕ) where
+  look-ins : (a : P) (es : List (ℕ × P)) → look k (ins s a es) ≡ cond (eqb k s) (Some a) (look k es)
+  look-ins a [] = refl
+  look-ins a (e ∷ r) =
+      let G : List (ℕ × P) → Type 0 = λ z. look k z ≡ cond (eqb k s) (Some a) (look k (e ∷ r)) in
+      cond-both (ltb s (e .0)) _ _ G (λ t. refl)
+      (λ t. cond-both (ltb (e .0) s) _ _ G
+      (λ u. let h = ltb-true (e .0) s u in
+      ap (cond (eqb k (e .0)) (Some (e .1))) (look-ins a r) ∙ swap (eqb k (e .0)) (eqb k s) (Some (e .1)) (Some a) (look k r) (apart k s (e .0) (λ q. omega (arith, h, q))))
+      (λ u. let h = ltb-false s (e .0) t in let i = ltb-false (e .0) s u in over-same k s (e .0) (Some a) (Some (e .1)) (look k r) (omega arith)))
+
+  look-del : (lo hi : ℕ) (es : List (ℕ × P)) → Asc lo hi es → look k (del s es) ≡ cond (eqb k s) None (look k es)
+  look-del lo hi [] p = go (eqb k s)
+    where
+      go : (b : Bool) → _≡_ {A = Option P} None (cond b None None)
+      go true = refl
+      go false = refl
+  look-del lo hi (e ∷ r) p =
+      let G : List (ℕ × P) → Type 0 = λ z. look k z ≡ cond (eqb k s) None (look k (e ∷ r)) in
+      cond-both (eqb s (e .0)) _ _ G
+      (λ t. let q = eqb-true s (e .0) t in gone (cases-eq k s) q)
+      (λ t. let n = eqb-false s (e .0) t in
+      ap (cond (eqb k (e .0)) (Some (e .1))) (look-del (p .1 .0) hi r (p .1 .2)) ∙ swap (eqb k (e .0)) (eqb k s) (Some (e .1)) None (look k r) (apart k s (e .0) n))
+    where
+      gone : (k ≡ s) ⊎ (k ≡ s → ⊥) → s ≡ e .0 → look k r ≡ cond (eqb k s) None (cond (eqb k (e .0)) (Some (e .1)) (look k r))
+      gone (inl h) q = rw (eq-eqb k s h) (look-above k (p .1 .0) hi r (p .1 .2) (omega (arith, p .1 .1)))
+      gone (inr h) q = rw (ne-eqb k s h, ne-eqb k (e .0) (λ z. h (z ∙ sym q)))
+
+pub looks : (M P : Type 0) → Looks M P
+looks M P new s k a r h w = (
+  ap (look k) (put-sound M P new s a r h w .1) ∙ look-ins s k a (rows M P (r .0) (r .1)),
+  ap (look k) (remove-sound M P new s r h w .1) ∙ look-del s k 0 10000 (rows M P (r .0) (r .1)) (span-asc M P (r .0) 0 10000 (r .1 .1) (w .0)),
+)

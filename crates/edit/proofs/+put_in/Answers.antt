@@ -34,16 +34,17 @@ pub covering-i-requires : need.covering-i-requires
 covering-i-requires g t c κs =
     let p = c .pre .able in
     let f = first-key _ _ _ (view (c .args .page .now)) _ (c .if-page-eq0 .left) (p .l) (p .es) (p .ready) in
-    (omega (arith, f .0, entries-length (c .args .page .now)), f .1)
+    omega (arith, f .0, entries-length (c .args .page .now))
 
 pub open-child-requires : need.open-child-requires
 open-child-requires g t c κs =
     let p = c .pre .able in
     let n = entries-length (c .args .page .now) in
+    let first = first-key _ _ _ (view (c .args .page .now)) _ (c .if-page-eq0 .left) (p .l) (p .es) (p .ready) .1 in
     record {
       sound = c .pre .sound; wide = p .ready .wide;
       owned = owned-any (g .D·Device .meaning (c .args .store .now .device)) (vec-items (c .args .store .now .counts .of)) (c .args .grant .now .blocks) (view (c .args .page .now)) (c .args .row .speed) (c .if-page-eq0 .left) (c .covering-i .result)
-        (omega (arith, n, c .covering-i .ensures .within)) (c .covering-i .ensures .low) (λ h. c .covering-i .ensures .high (omega (arith, n, h))) _ _ (entries-at (c .args .page .now) (c .covering-i .result) (c .index-page-i .result) (c .covering-i .ensures .within))
+        (omega (arith, n, c .covering-i .ensures .within)) (c .covering-i .ensures .low first) (λ h. c .covering-i .ensures .high (omega (arith, n, h))) _ _ (entries-at (c .args .page .now) (c .covering-i .result) (c .index-page-i .result) (c .covering-i .ensures .within))
         (p .l) (p .es) (p .ready);
     }
 
@@ -51,10 +52,11 @@ pub put-in-made-requires : need.put-in-made-requires
 put-in-made-requires g t c κs within =
     let p = c .pre .able in
     let n = entries-length (c .args .page .now) in
+    let first = first-key _ _ _ (view (c .args .page .now)) _ (c .if-page-eq0 .left) (p .l) (p .es) (p .ready) .1 in
     let R = part-any (g .D·Device .meaning (c .args .store .now .device)) (vec-items (c .args .store .now .counts .of)) (c .args .grant .now .blocks) (view (c .args .page .now)) (c .args .row .speed) (c .if-page-eq0 .left) (c .covering-i .result)
-        (omega (arith, n, c .covering-i .ensures .within)) (c .covering-i .ensures .low) (λ h. c .covering-i .ensures .high (omega (arith, n, h))) _ _ (entries-at (c .args .page .now) (c .covering-i .result) (c .index-page-i .result) (c .covering-i .ensures .within))
+        (omega (arith, n, c .covering-i .ensures .within)) (c .covering-i .ensures .low first) (λ h. c .covering-i .ensures .high (omega (arith, n, h))) _ _ (entries-at (c .args .page .now) (c .covering-i .result) (c .index-page-i .result) (c .covering-i .ensures .within))
         (view (c .open-child .result)) (view (c .part-for-part .result)) (c .open-child .ensures .page) (c .part-for-part .ensures .level) (c .part-for-part .ensures .these)
-        (stateOf (g .D·Device .meaning (c .open-child .last .store .device)) (vec-items (c .open-child .last .store .counts .of))) (c .open-child .ensures .state)
+        (stateOf (g .D·Device .meaning (c .open-child .last .self .device)) (vec-items (c .open-child .last .self .counts .of))) (c .open-child .ensures .state)
         (p .l) (p .es) (p .ready) in
     (omega (arith, c .measured, R .1), (within, (c .open-child .ensures .sound, (R .0, (c .pre .start, omega (arith, R .1, c .pre .enough))))))
 
@@ -62,10 +64,11 @@ pub link-kids-kids-requires : need.link-kids-kids-requires
 link-kids-kids-requires g t c κs =
     let p = c .pre .able in
     let n = entries-length (c .args .page .now) in
+    let first = first-key _ _ _ (view (c .args .page .now)) _ (c .if-page-eq0 .left) (p .l) (p .es) (p .ready) .1 in
     let L = linkable (g .D·Device .meaning (c .args .store .now .device)) (vec-items (c .args .store .now .counts .of)) (c .args .grant .now .blocks) (view (c .args .page .now)) (c .args .row .speed) (c .if-page-eq0 .left) (c .covering-i .result)
-        (omega (arith, n, c .covering-i .ensures .within)) (c .covering-i .ensures .low) (λ h. c .covering-i .ensures .high (omega (arith, n, h))) _ _ (entries-at (c .args .page .now) (c .covering-i .result) (c .index-page-i .result) (c .covering-i .ensures .within))
+        (omega (arith, n, c .covering-i .ensures .within)) (c .covering-i .ensures .low first) (λ h. c .covering-i .ensures .high (omega (arith, n, h))) _ _ (entries-at (c .args .page .now) (c .covering-i .result) (c .index-page-i .result) (c .covering-i .ensures .within))
         (view (c .open-child .result)) (view (c .part-for-part .result)) (c .open-child .ensures .page) (c .part-for-part .ensures .level) (c .part-for-part .ensures .these)
-        (stateOf (g .D·Device .meaning (c .open-child .last .store .device)) (vec-items (c .open-child .last .store .counts .of))) (c .open-child .ensures .state)
+        (stateOf (g .D·Device .meaning (c .open-child .last .self .device)) (vec-items (c .open-child .last .self .counts .of))) (c .open-child .ensures .state)
         (c .args .row .value) (view (c .put-in-made .result)) (stateOf (g .D·Device .meaning (c .put-in-made .last .store .device)) (vec-items (c .put-in-made .last .store .counts .of))) (c .put-in-made .ensures .made)
         (c .put-in-made .last .grant .next) (c .put-in-made .ensures .next)
         (p .l) (p .es) (p .ready) in
@@ -84,15 +87,16 @@ pub returns : need.returns
 returns g t c =
     let p = c .pre .able in
     let n = entries-length (c .args .page .now) in
+    let first = first-key _ _ _ (view (c .args .page .now)) _ (c .if-page-eq0 .left) (p .l) (p .es) (p .ready) .1 in
     let M : Meaning = g .D·Device .meaning (c .args .store .now .device) in
     let cs : List ℕ = vec-items (c .args .store .now .counts .of) in
     let gs : List ℕ = c .args .grant .now .blocks in
-    let q₁ : State = stateOf (g .D·Device .meaning (c .open-child .last .store .device)) (vec-items (c .open-child .last .store .counts .of)) in
+    let q₁ : State = stateOf (g .D·Device .meaning (c .open-child .last .self .device)) (vec-items (c .open-child .last .self .counts .of)) in
     let q₂ : State = stateOf (g .D·Device .meaning (c .put-in-made .last .store .device)) (vec-items (c .put-in-made .last .store .counts .of)) in
     let q₃ : State = stateOf (g .D·Device .meaning (c .link-kids-kids .last .store .device)) (vec-items (c .link-kids-kids .last .store .counts .of)) in
     let j : ℕ = c .put-in-made .last .grant .next in
     let L = linkable M cs gs (view (c .args .page .now)) (c .args .row .speed) (c .if-page-eq0 .left) (c .covering-i .result)
-        (omega (arith, n, c .covering-i .ensures .within)) (c .covering-i .ensures .low) (λ h. c .covering-i .ensures .high (omega (arith, n, h))) _ _ (entries-at (c .args .page .now) (c .covering-i .result) (c .index-page-i .result) (c .covering-i .ensures .within))
+        (omega (arith, n, c .covering-i .ensures .within)) (c .covering-i .ensures .low first) (λ h. c .covering-i .ensures .high (omega (arith, n, h))) _ _ (entries-at (c .args .page .now) (c .covering-i .result) (c .index-page-i .result) (c .covering-i .ensures .within))
         (view (c .open-child .result)) (view (c .part-for-part .result)) (c .open-child .ensures .page) (c .part-for-part .ensures .level) (c .part-for-part .ensures .these)
         q₁ (c .open-child .ensures .state) (c .args .row .value) (view (c .put-in-made .result)) q₂ (c .put-in-made .ensures .made) j (c .put-in-made .ensures .next) (p .l) (p .es) (p .ready) in
     let by : By (c .open-child .result .level) (getD gs j 0) (getD gs (j + 1) 0) q₂ q₃ (listed (c .link-kids-kids .result)) (parted (c .args .row .speed) (getD (c .args .page .now .items) (c .covering-i .result) (c .index-page-i .result) .speed) (entries (c .open-child .result)) (entries (c .put-in-made .result))) =
@@ -101,7 +105,7 @@ returns g t c =
     record {
       sound = c .link-kids-kids .ensures .sound;
       made = up-any M cs gs (view (c .args .page .now)) (c .args .row .speed) (c .if-page-eq0 .left) (c .covering-i .result)
-        (omega (arith, n, c .covering-i .ensures .within)) (c .covering-i .ensures .low) (λ h. c .covering-i .ensures .high (omega (arith, n, h))) _ _ (entries-at (c .args .page .now) (c .covering-i .result) (c .index-page-i .result) (c .covering-i .ensures .within))
+        (omega (arith, n, c .covering-i .ensures .within)) (c .covering-i .ensures .low first) (λ h. c .covering-i .ensures .high (omega (arith, n, h))) _ _ (entries-at (c .args .page .now) (c .covering-i .result) (c .index-page-i .result) (c .covering-i .ensures .within))
         (view (c .open-child .result)) (view (c .part-for-part .result)) (c .open-child .ensures .page) (c .part-for-part .ensures .level) (c .part-for-part .ensures .these)
         q₁ (c .open-child .ensures .state) (c .args .row .value) (view (c .put-in-made .result)) q₂ (c .put-in-made .ensures .made) j (c .put-in-made .ensures .next)
         q₃ (listed (c .link-kids-kids .result)) (view (c .with-kids .result)) by (ap₂ page (c .with-kids .ensures .level) (c .with-kids .ensures .these));

@@ -24,7 +24,7 @@ returns-then-child-lt15 g c =
     let v : view (c .args .made .now) ≡ page l made = ap (λ (k : ℕ). page k made) (c .pre .level .1) in
     let z : Layout (q .0 .width) (page l made) = subst (Layout (q .0 .width)) v (laid-out (c .args .made .now) (q .0 .width) (c .pre .wide .0) (omega (arith, c .pre .level .0, c .pre .level .1))) in
     let b = by-one l (c .args .speed) (c .args .key) (getD (c .args .grant .now .blocks) (c .args .grant .now .next) 0) (getD (c .args .grant .now .blocks) (c .args .grant .now .next + 1) 0) (c .take-left .result) es made q
-              (stateOf (g .D·Device .meaning (c .link .last .store .device)) (vec-items (c .link .last .store .counts .of))) (c .take-left .ensures .block)
+              (stateOf (g .D·Device .meaning (c .link .last .self .device)) (vec-items (c .link .last .self .counts .of))) (c .take-left .ensures .block)
               (omega (arith, entries-length (c .args .child .now), c .if-child-lt15 .taken)) (c .link .ensures .state ∙ ap (λ (n : Block). step (linking (c .take-left .result) n) q) v) z in
     record {
       sound = c .link .ensures .sound; kids = b .kids; state = b .state; laid = b .laid;

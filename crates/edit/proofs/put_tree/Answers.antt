@@ -84,5 +84,5 @@ returns g c =
         let j : c .put-in-made .last .grant .next ≡ 2 * suc (r .0) = omega (arith, c .put-in-made .ensures .next, c .single-top .ensures .level, p .height) in
         let b : c .take-block .result ≡ getD gs (2 * suc (r .0)) 0 = c .take-block .ensures .block ∙ ap₂ (λ (x : List ℕ) (i : ℕ). getD x i 0) (c .put-in-made .ensures .blocks) j in
         more-grown m cs gs (c .args .root .block) (c .args .root .level) (c .args .row .speed) r h p (c .args .row .value) q (view (c .put-in-made .result)) M v (c .take-block .result) b
-          (stateOf (g .D·Device .meaning (c .link .last .store .device)) (vec-items (c .link .last .store .counts .of))) (c .link .ensures .state) (laid-out (c .put-in-made .result) (q .0 .width) (L .0 .0) (L .4));
+          (stateOf (g .D·Device .meaning (c .link .last .self .device)) (vec-items (c .link .last .self .counts .of))) (c .link .ensures .state) (laid-out (c .put-in-made .result) (q .0 .width) (L .0 .0) (L .4));
     }

@@ -1,13 +1,12 @@
-use mathlib.Core.Path.{_≡_, refl, sym, ap, subst, _∙_}
+use mathlib.Core.Path.{_≡_, refl, ap, subst, _∙_}
 use mathlib.Core.List.{List, map}
 use mathlib.Core.Bool.{true, false}
-use Prim.Native.Nat.{ℕ, _+_, _%_, _/_, _≤_, _<_}
+use Prim.Native.Nat.{ℕ, _%_, _/_}
 use native.Mathlib.Omega.{arith}
-use borrow.Author.Needs.{needs}
-use lib.ListN.{length, getD, take, drop, length-set}
-use Rattle.page.specs.View.{pair, view}
-use Rattle.page.specs.Block.{Block, read, pairs}
-use Rattle.page.proofs.Words.{dec-step, decode-far, decode-by}
+use lib.ListN.{getD, take, drop, length-set}
+use Rattle.page.specs.View.{pair}
+use Rattle.page.specs.Block.{Block, pairs}
+use Rattle.page.proofs.Words.{dec-step, decode-by}
 use Rattle.page.proofs.codec.decode_page.Needs as need
 
 pub loop-i-again : need.loop-i-again

@@ -1,6 +1,6 @@
 use mathlib.Core.Path.{_≡_}
 use mathlib.Core.List.{_++_}
-use Prim.Native.Nat.{ℕ, suc, _-_, _≤_, _<_}
+use Prim.Native.Nat.{suc, _-_}
 use lib.ListN.{length, take, drop}
 use Rattle.page.proofs.slices.remove_among.Given as given
 

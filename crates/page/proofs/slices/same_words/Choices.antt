@@ -1,5 +1,5 @@
 use mathlib.Core.Path.{_≡_}
-use lib.ListN.{length, take, drop}
+use lib.ListN.{drop}
 use Rattle.page.specs.Block.{same}
 use Rattle.page.proofs.slices.same_words.Given as given
 

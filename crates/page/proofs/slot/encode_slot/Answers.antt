@@ -1,8 +1,8 @@
 use mathlib.Core.Path.{_≡_, refl, sym, ap, _∙_}
-use mathlib.Core.List.{List, [], _∷_, _++_, map, append-nil}
-use Prim.Native.Nat.{ℕ, _+_, _-_, _<_}
+use mathlib.Core.List.{_∷_, _++_, map, append-nil}
+use Prim.Native.Nat.{_+_, _-_}
 use native.Mathlib.Omega.{arith}
-use lib.ListN.{length, getD, set, take, replicate, length-set}
+use lib.ListN.{length, take, replicate, length-set}
 use Rattle.std.proofs.shelf.Lists.{getD-map, length-map, take-all}
 use Rattle.std.specs.declared.option.Option.the-variants.{None}
 use Rattle.page.specs.Block.{word}

@@ -1,14 +1,11 @@
-use mathlib.Core.Path.{_≡_, refl, sym, ap, subst, _∙_}
-use mathlib.Core.List.{List, [], _∷_, _++_, map}
-use Prim.Native.Nat.{ℕ, suc, _+_, _-_, _<_, _≤_}
+use mathlib.Core.Path.{_≡_, refl, subst, _∙_}
+use mathlib.Core.List.{_++_}
+use Prim.Native.Nat.{ℕ, _+_, _-_}
 use native.Mathlib.Omega.{arith}
-use borrow.Author.Needs.{needs}
-use borrow.Author.Count.{below-more}
-use lib.ListN.{length, getD, set, take, drop, length-set}
-use Rattle.page.specs.View.{pair, entries}
-use Rattle.page.proofs.Pages.{entries-length, entries-at}
+use lib.ListN.{take, length-set}
+use Rattle.page.specs.View.{pair}
 use Rattle.page.proofs.Shifts.{join-start, join-step}
-use Rattle.page.proofs.Editing.{join-edit, out-edit, out-length, one-length, both-edit, fewer-edit, del-hit, del-miss}
+use Rattle.page.proofs.Editing.{join-edit}
 use Rattle.page.proofs.page.Page.joined.Needs as need
 
 pub loop-j-holds : need.loop-j-holds

@@ -1,14 +1,8 @@
-use mathlib.Core.Path.{_≡_, refl, sym, ap, subst, _∙_}
-use mathlib.Core.List.{List, [], _∷_, _++_, map}
-use Prim.Native.Nat.{ℕ, suc, _+_, _-_, _<_, _≤_}
+use mathlib.Core.Path.{refl}
+use Prim.Native.Nat.{_-_}
 use native.Mathlib.Omega.{arith}
-use borrow.Author.Needs.{needs}
-use borrow.Author.Count.{below-more}
-use lib.ListN.{length, getD, set, take, drop, length-set}
-use Rattle.page.specs.View.{pair, entries, view}
-use Rattle.page.proofs.Pages.{entries-length, entries-at}
-use Rattle.page.proofs.Shifts.{copy-step}
-use Rattle.page.proofs.Editing.{one-edit, more-edit, lower-edit, upper-edit, two-edit, ins-hit, ins-miss}
+use Rattle.page.specs.View.{pair}
+use Rattle.page.proofs.Editing.{one-edit}
 use Rattle.page.proofs.page.Page.with_one.Needs as need
 
 pub returns : need.returns

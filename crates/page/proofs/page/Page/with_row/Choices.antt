@@ -1,4 +1,4 @@
-use Prim.Native.Nat.{ℕ, _<_, _≤_}
+use Prim.Native.Nat.{ℕ, _<_}
 use lib.ListN.{getD}
 use Rattle.page.specs.View.{entries}
 use Rattle.page.proofs.page.Page.with_row.Given as given

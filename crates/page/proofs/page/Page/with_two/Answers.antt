@@ -1,14 +1,11 @@
-use mathlib.Core.Path.{_≡_, refl, sym, ap, subst, _∙_}
-use mathlib.Core.List.{List, [], _∷_, _++_, map}
-use Prim.Native.Nat.{ℕ, suc, _+_, _-_, _<_, _≤_}
+use mathlib.Core.Path.{ap, _∙_}
+use mathlib.Core.List.{List, _∷_, _++_}
+use Prim.Native.Nat.{ℕ, suc, _+_, _-_}
 use native.Mathlib.Omega.{arith}
-use borrow.Author.Needs.{needs}
-use borrow.Author.Count.{below-more}
-use lib.ListN.{length, getD, set, take, drop, length-set}
-use Rattle.page.specs.View.{pair, entries, view}
-use Rattle.page.proofs.Pages.{entries-length, entries-at}
-use Rattle.page.proofs.Shifts.{copy-step}
-use Rattle.page.proofs.Editing.{one-edit, more-edit, lower-edit, upper-edit, two-edit, more-length, ins-hit, ins-miss}
+use lib.ListN.{length, take, drop}
+use Rattle.page.specs.View.{pair, entries}
+use Rattle.page.proofs.Pages.{entries-length}
+use Rattle.page.proofs.Editing.{two-edit, more-length}
 use Rattle.page.proofs.page.Page.with_two.Needs as need
 
 pub with-one-requires : need.with-one-requires
