@@ -1,26 +1,22 @@
 -- What the device in memory does to its slices, and so to its meaning.
 use mathlib.Core.Path.{_≡_, refl, sym, ap, subst, _∙_}
-use mathlib.Core.List.{List, [], _∷_, map, _++_}
-use mathlib.Core.Logic.{_⊎_, inl, inr, ⊎-elim, _≢_}
+use mathlib.Core.List.{List, map}
+use mathlib.Core.Logic.{_⊎_, inl, inr, ⊎-elim}
 use Prim.Native.Nat.{ℕ, zero, suc, _+_, _-_, _*_, _^_, _<_, _≤_, min}
 use native.Mathlib.Omega.{arith}
-use native.Mathlib.Nat.{add-mul}
 use lib.ListN.{length, getD, set, take, drop, replicate}
 use borrow.Rule.Slice.PartMut.{putMid}
 use Rattle.std.specs.Iters.{counting}
 use Rattle.std.specs.shelf.Lists.{All}
-use Rattle.std.specs.declared.result.Result.{Result}
-use Rattle.std.specs.declared.result.Result.the-variants.{Ok, Err}
-use Rattle.std.proofs.shelf.Bits.{mul-le}
-use Rattle.std.proofs.shelf.Lists.{same-lists, length-set, length-append, length-take-le, length-drop, getD-set-same, getD-set-other, drop-take, getD-replicate, length-replicate}
+use Rattle.std.specs.declared.result.Result.the-variants.{Ok}
+use Rattle.std.proofs.shelf.Lists.{length-set, length-append, length-take-le, length-drop, getD-set-same, getD-set-other, drop-take, getD-replicate, length-replicate}
 use Rattle.std.proofs.shelf.Elements.{all-append, all-take, all-drop}
 use Rattle.std.proofs.shelf.Parts.{between-putMid, drop-putMid, take-putMid-below}
 use Rattle.std.proofs.shelf.Counted.{length-map-counting}
 use Rattle.std.proofs.shelf.Tests.{cases-eq, cases-order}
 use Rattle.device.specs.Meaning.{Meaning, Cell, words, reading, held, written, writtenCell, flushed, flushedCell, noCell, own, endless, Cut, CutCell, CutTo}
 use Rattle.device.specs.declared.Layer.the-variants.{Memory}
-use Rattle.device.specs.declared.DeviceFault.{DeviceFault}
-use Rattle.device.proofs.Calls.{reading-at, reading-short, reading-far}
+use Rattle.device.proofs.Calls.{reading-at}
 use Rattle.device.proofs.Tables.{map-map, getD-table, set-table, same-table}
 use Rattle.memory.specs.Fit.{rows, block-length}
 use Rattle.memory.specs.Memory.{memory, cleared, Sound, Shaped, blockOf, cellOf, Leaves, LeavesBlock, Outlasts}

@@ -1,16 +1,15 @@
 -- What the device in memory keeps makes its meaning lawful.
-use mathlib.Core.Path.{_≡_, refl, sym, ap, subst, _∙_}
-use mathlib.Core.List.{List, [], _∷_, map, _++_}
-use Prim.Native.Nat.{ℕ, _+_, _-_, _*_, _^_, _<_, _≤_}
+use mathlib.Core.Path.{_≡_, ap}
+use mathlib.Core.List.{List}
+use Prim.Native.Nat.{ℕ, _+_, _-_, _*_, _<_, _≤_}
 use native.Mathlib.Omega.{arith}
 use native.Mathlib.Nat.{add-mul}
-use lib.ListN.{length, getD, take, drop}
-use Rattle.std.specs.shelf.Lists.{All}
+use lib.ListN.{length, drop}
 use Rattle.std.proofs.shelf.Bits.{mul-le}
 use Rattle.std.proofs.shelf.Lists.{length-take-le, length-drop}
 use Rattle.std.proofs.shelf.Elements.{all-take, all-drop}
 use Rattle.std.proofs.shelf.Counted.{length-map-counting}
-use Rattle.device.specs.Meaning.{Meaning, Cell, LawfulCell, Lawful, words}
+use Rattle.device.specs.Meaning.{LawfulCell, Lawful, words}
 use Rattle.device.proofs.Tables.{all-table}
 use Rattle.memory.specs.Memory.{memory, Sound, blockOf, cellOf}
 

@@ -1,12 +1,12 @@
 -- What the device in memory means, what it keeps, and what a cut of the power may leave of it.
 use mathlib.Core.Path.{_≡_}
-use mathlib.Core.List.{List, [], _∷_, map}
+use mathlib.Core.List.{List, map}
 use mathlib.Core.Logic.{_⊎_}
-use Prim.Native.Nat.{ℕ, zero, suc, _+_, _-_, _*_, _^_, _<_, _≤_}
-use lib.ListN.{length, getD, set, take, drop, replicate}
+use Prim.Native.Nat.{ℕ, zero, suc, _-_, _*_, _^_, _<_, _≤_}
+use lib.ListN.{length, getD, take, drop, replicate}
 use Rattle.std.specs.Iters.{counting}
 use Rattle.std.specs.shelf.Lists.{All}
-use Rattle.device.specs.Meaning.{Meaning, Cell, Content, words, own, endless, Cut}
+use Rattle.device.specs.Meaning.{Meaning, Cell, words, own, endless, Cut}
 use Rattle.device.specs.declared.Layer.the-variants.{Memory}
 
 -- block b of a slice of blocks of w words

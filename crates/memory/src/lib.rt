@@ -1,14 +1,13 @@
 // A device in memory, over three lent slices: the current words, the persisted words and a mark for each block.
 // Only the persisted words outlast a cut of the power.
 ghost use mathlib.Core.Path.{_≡_};
-ghost use Prim.Native.Nat.{ℕ, _+_, _-_, _*_, _^_, _<_, _≤_};
-ghost use lib.ListN.{length, getD, set, replicate, take, drop};
+ghost use Prim.Native.Nat.{_+_, _-_, _*_, _^_, _<_, _≤_};
+ghost use lib.ListN.{length, replicate, take, drop};
 ghost use denote.Ref.{now};
 ghost use Rattle.std.specs.shelf.Lists.{All};
 ghost use Rattle.std.specs.Results.{Cases};
 ghost use Rattle.std.specs.Vec.{made};
 ghost use Rattle.device.specs.declared.Layer.{Layer};
-ghost use Rattle.device.specs.Meaning.{own, flushed};
 ghost use Rattle.memory.specs.Fit.{fit};
 ghost use Rattle.memory.specs.Memory.{memory, Sound, Shaped, cleared, Outlasts};
 use device::Device;

@@ -11,6 +11,19 @@ use super::slices::insert_among;
 use super::slices::remove_among;
 
 impl Page {
+    // A page with no entry.
+    pub fn empty(level: u32) -> Page
+        requires { ⌜ level ≤ 5 ⌝ }
+        ensures level { λ r. ⌜ r .level ≡ level ⌝ }
+        ensures these { λ r. ⌜ entries r ≡ [] ⌝ }
+    {
+        Page {
+            level,
+            items: [Entry { speed: 0, value: 0 }; 15],
+            len: 0,
+        }
+    }
+
     // A page of one entry.
     pub fn single(level: u32, e: Entry) -> Page
         requires { ⌜ level ≤ 5 ⌝ }

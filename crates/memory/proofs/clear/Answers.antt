@@ -3,7 +3,7 @@ use mathlib.Core.Path.{_≡_, sym, _∙_}
 use Prim.Native.Nat.{ℕ, _<_}
 use native.Mathlib.Omega.{arith}
 use borrow.Author.Count.{below-more}
-use lib.ListN.{length, replicate}
+use lib.ListN.{length}
 use Rattle.std.proofs.shelf.Lists.{same-lists, getD-default, length-replicate, getD-replicate, getD-set-same, getD-set-other}
 use Rattle.memory.proofs.clear.Needs as need
 

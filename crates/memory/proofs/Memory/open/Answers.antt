@@ -1,6 +1,5 @@
-use mathlib.Core.Path.{_≡_, refl, sym, ap, subst, _∙_}
+use mathlib.Core.Path.{_≡_, sym, ap, subst, _∙_}
 use native.Mathlib.Omega.{arith}
-use Prim.Native.Nat.{ℕ, _^_, _<_}
 use lib.ListN.{length, replicate}
 use Rattle.memory.specs.Memory.{Shaped, Sound, memory, cleared, Outlasts}
 use Rattle.memory.proofs.Facts.{opened-sound, opened-cut}

@@ -1,10 +1,10 @@
-use mathlib.Core.Path.{_≡_, refl, sym, ap, subst, _∙_}
+use mathlib.Core.Path.{_≡_, sym, ap, _∙_}
 use native.Mathlib.Omega.{arith}
-use Prim.Native.Nat.{ℕ, _<_}
-use lib.ListN.{length, replicate, getD}
+use Prim.Native.Nat.{ℕ}
+use lib.ListN.{length, replicate}
 use mathlib.Core.List.{List}
 use Rattle.std.proofs.shelf.Lists.{same-lists, getD-default}
-use Rattle.device.specs.Meaning.{Meaning, flushed}
+use Rattle.device.specs.Meaning.{flushed}
 use Rattle.memory.specs.Memory.{memory, Sound}
 use Rattle.memory.proofs.Facts.{flush-after, flush-sound}
 use Rattle.memory.proofs.MemoryDevice.flush.Needs as need

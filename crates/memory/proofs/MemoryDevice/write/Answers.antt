@@ -1,11 +1,11 @@
 use mathlib.Core.Path.{_≡_, refl, sym, ap, subst, _∙_}
-use Prim.Native.Nat.{ℕ, _^_, _<_}
+use Prim.Native.Nat.{_^_, _<_}
 use Rattle.std.specs.shelf.Lists.{All}
 use Rattle.std.proofs.shelf.Elements.{all-from-getD}
 use native.Mathlib.Omega.{arith}
 use lib.ListN.{length}
 use Rattle.std.proofs.shelf.Counted.{length-map-counting}
-use Rattle.device.specs.Meaning.{afterWrite, written}
+use Rattle.device.specs.Meaning.{written}
 use Rattle.device.proofs.Calls.{writing-far, writing-at}
 use Rattle.memory.specs.Memory.{memory}
 use Rattle.memory.proofs.Facts.{write-after, write-sound}

@@ -1,0 +1,2 @@
+pub mod Follows
+pub mod Cuts
