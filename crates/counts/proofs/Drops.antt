@@ -23,7 +23,7 @@ dropped-none m cs h c = recount (λ b. 0 + h b) h (λ b. omega arith) c
 pub dropped-push : (xs : List ℕ) (y : ℕ) (m : Meaning) (cs cs′ cs″ : List ℕ) → Dropped xs m cs cs′ → Dropped (y ∷ []) m cs′ cs″ → Dropped (xs ++ y ∷ []) m cs cs″
 dropped-push xs y m cs cs′ cs″ d e h c =
     e h (d (λ b. occ b (y ∷ []) + h b)
-      (recount (λ b. occ b (xs ++ y ∷ []) + h b) (λ b. occ b xs + (occ b (y ∷ []) + h b)) (λ b. omega (arith, occ-append b xs (y ∷ []))) c))
+    (recount (λ b. occ b (xs ++ y ∷ []) + h b) (λ b. occ b xs + (occ b (y ∷ []) + h b)) (λ b. omega (arith, occ-append b xs (y ∷ []))) c))
 
 -- after i of the children ks are dropped, the next is still held
 next-held : (ks : List ℕ) (i level : ℕ) (h : ℕ → ℕ) (m : Meaning) (cs cs′ : List ℕ) → Counted (blockAt m) cs (λ b. occ b ks + h b) → ((y : ℕ) → 0 < occ y ks → levelOf (blockAt m y) + 1 ≡ level)
@@ -35,7 +35,7 @@ next-held ks i level h m cs cs′ c low lt d =
     record {
       others = λ b. occ b (drop (i + 1) ks) + h b;
       counted = recount (λ b. occ b (drop i ks) + h b) (λ b. one y b + (occ b (drop (i + 1) ks) + h b)) (λ b. omega (arith, more b))
-        (d (λ b. occ b (drop i ks) + h b)
+          (d (λ b. occ b (drop i ks) + h b)
           (recount (λ b. occ b ks + h b) (λ b. occ b (take i ks) + (occ b (drop i ks) + h b)) (λ b. omega (arith, split b)) c));
       height = omega (arith, low y (occ-at ks i lt));
     }

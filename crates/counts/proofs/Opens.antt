@@ -34,15 +34,15 @@ recount h h′ e c = record { eqn = λ b. omega (arith, c .eqn b, e b); nodes = 
 pub add-ge : (cs : List ℕ) (k b : ℕ) → getD cs b 0 ≤ getD (set cs k (getD cs k 0 + 1)) b 0
 add-ge cs k b = ⊎-elim
     (λ e. ⊎-elim
-      (λ l. omega (arith, ap (λ n. getD (set cs k (getD cs k 0 + 1)) n 0) e, getD-set-same cs k (getD cs k 0 + 1) 0 l, ap (λ n. getD cs n 0) e))
-      (λ p. omega (arith, ap (λ ds. getD ds b 0) (set-past cs k (getD cs k 0 + 1) p))) (cases-lt k (length cs)))
+    (λ l. omega (arith, ap (λ n. getD (set cs k (getD cs k 0 + 1)) n 0) e, getD-set-same cs k (getD cs k 0 + 1) 0 l, ap (λ n. getD cs n 0) e))
+    (λ p. omega (arith, ap (λ ds. getD ds b 0) (set-past cs k (getD cs k 0 + 1) p))) (cases-lt k (length cs)))
     (λ ne. omega (arith, getD-set-other cs k b (getD cs k 0 + 1) 0 ne)) (cases-eq b k)
 
 pub add-le : (cs : List ℕ) (k b : ℕ) → getD (set cs k (getD cs k 0 + 1)) b 0 ≤ getD cs b 0 + 1
 add-le cs k b = ⊎-elim
     (λ e. ⊎-elim
-      (λ l. omega (arith, ap (λ n. getD (set cs k (getD cs k 0 + 1)) n 0) e, getD-set-same cs k (getD cs k 0 + 1) 0 l, ap (λ n. getD cs n 0) e))
-      (λ p. omega (arith, ap (λ ds. getD ds b 0) (set-past cs k (getD cs k 0 + 1) p))) (cases-lt k (length cs)))
+    (λ l. omega (arith, ap (λ n. getD (set cs k (getD cs k 0 + 1)) n 0) e, getD-set-same cs k (getD cs k 0 + 1) 0 l, ap (λ n. getD cs n 0) e))
+    (λ p. omega (arith, ap (λ ds. getD ds b 0) (set-past cs k (getD cs k 0 + 1) p))) (cases-lt k (length cs)))
     (λ ne. omega (arith, getD-set-other cs k b (getD cs k 0 + 1) 0 ne)) (cases-eq b k)
 
 pub add-all-ge : (ks cs : List ℕ) (b : ℕ) → getD cs b 0 ≤ getD (addAll ks cs) b 0
@@ -63,9 +63,9 @@ few-in ws false e t = omega arith
 few-in ws true e false = omega arith
 few-in ws true e true = few-at (read ws .level) (read ws .entries) (leb-true (length (read ws .entries)) 15 (and-parts (leb (length (read ws .entries)) 15) (ltb (read ws .level) 5) (sym e) .0))
   where
-  few-at : (l : ℕ) (es : List (ℕ × ℕ)) → length es ≤ 15 → length (children l es) ≤ 15
-  few-at zero es h = omega arith
-  few-at (suc l) es h = omega (arith, length-map es (λ e. e .1))
+    few-at : (l : ℕ) (es : List (ℕ × ℕ)) → length es ≤ 15 → length (children l es) ≤ 15
+    few-at zero es h = omega arith
+    few-at (suc l) es h = omega (arith, length-map es (λ e. e .1))
 
 few-content : (k : Content) → length (kidsOf (blockIn k)) ≤ 15
 few-content (words ws) = few-in ws (fits (read ws)) refl (same ws (encode (length ws) (read ws)))
@@ -122,10 +122,10 @@ open-counted m cs h x c =
     ⊎-elim
     (λ s. subst to (sym (eq-eqb (getD cs x 0) 1 s)) (drop-last (blockAt m) cs h x c s))
     (λ ne. subst to (sym (ne-eqb (getD cs x 0) 1 ne))
-      (drop-one (blockAt m) ds (λ b. occ b ks + h b) x (getD ds x 0 - 1)
-        (recount (λ b. occ b ks + (one x b + h b)) (λ b. one x b + (occ b ks + h b)) (λ b. omega arith)
-          (add-all (blockAt m) ks cs (λ b. one x b + h b) (λ k q. kids-alive m cs (λ b. one x b + h b) x k c a q) c))
-        (omega (arith, add-all-ge ks cs x)) (omega (arith, add-all-ge ks cs x))))
+    (drop-one (blockAt m) ds (λ b. occ b ks + h b) x (getD ds x 0 - 1)
+    (recount (λ b. occ b ks + (one x b + h b)) (λ b. one x b + (occ b ks + h b)) (λ b. omega arith)
+    (add-all (blockAt m) ks cs (λ b. one x b + h b) (λ k q. kids-alive m cs (λ b. one x b + h b) x k c a q) c))
+    (omega (arith, add-all-ge ks cs x)) (omega (arith, add-all-ge ks cs x))))
     (cases-eq (getD cs x 0) 1)
 
 add-all-other : (ks cs : List ℕ) (b : ℕ) → occ b ks ≡ 0 → getD (addAll ks cs) b 0 ≡ getD cs b 0

@@ -11,8 +11,8 @@ mod grant;
 mod store;
 
 pub use grant::Grant;
-pub use store::Store;
 use page::page::Page;
+pub use store::Store;
 
 pub fn counts_stand() -> u8
     ensures reached { λ _. ⌜ Alive-is-reached ⌝ }

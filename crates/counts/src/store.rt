@@ -11,7 +11,6 @@ ghost use Rattle.device.specs.Meaning.{blocksOf, written};
 ghost use Rattle.page.specs.Block.{blockAt};
 ghost use Rattle.page.specs.View.{view};
 ghost use Rattle.counts.specs.Moves.{opening, linking, stateOf, step, Wide, Owned, Held, Dropped};
-
 use super::Counts;
 use device::Device;
 use page::codec::decode_page;

@@ -46,10 +46,15 @@ pub moves-writes : (gs : List ℕ) (s a l : ℕ) (es : List (ℕ × Pay ℕ ℕ 
 moves-writes gs s a zero es = omega arith
 moves-writes gs s a (suc l) es =
     down-writes s (2 * suc l) (kidMoves gs s a l (moves gs s a l))
-      (λ k t. let ps = parted s k (t .1) (putN gs s a l (chosen s (t .1))) in
-        omega (arith, moves-writes gs s a l (chosen s (t .1)), writes-append (moves gs s a l (chosen s (t .1))) (links l (mapE (λ c. (c .0, shallow l (c .1))) (placed (getD gs (2 * l) 0) (getD gs (2 * l + 1) 0) ps))),
-          links-writes l (shallow l) (getD gs (2 * l) 0) (getD gs (2 * l + 1) 0) ps, parted-two s k (t .1) (putN gs s a l (chosen s (t .1)))))
-      es
+    (λ k t. let ps = parted s k (t .1) (putN gs s a l (chosen s (t .1))) in
+    omega (
+      arith,
+      moves-writes gs s a l (chosen s (t .1)),
+      writes-append (moves gs s a l (chosen s (t .1))) (links l (mapE (λ c. (c .0, shallow l (c .1))) (placed (getD gs (2 * l) 0) (getD gs (2 * l + 1) 0) ps))),
+      links-writes l (shallow l) (getD gs (2 * l) 0) (getD gs (2 * l + 1) 0) ps,
+      parted-two s k (t .1) (putN gs s a l (chosen s (t .1))),
+    ))
+    es
 
 module _ (m : Meaning) (cs gs : List ℕ) (n : Block) (s : ℕ) where
   pub leaf-made : (a : ℕ) (r : Block) → n .level ≡ 0 → r .level ≡ n .level → r .entries ≡ ins s a (n .entries) → (l : ℕ) (es : List (ℕ × Pay ℕ ℕ l)) → Ready m cs gs n s l es → Made m cs m cs gs s a l es r
@@ -92,13 +97,14 @@ module _ (m : Meaning) (cs gs : List ℕ) (n : Block) (s : ℕ) where
           let q : q₁ ≡ step (opening (t .0)) (stateOf m cs) = e₁ ∙ ap (λ (x : ℕ). step (opening x) (stateOf m cs)) bt in
           let v : part ≡ page l (chosen s (shallow l (t .1))) = ap₂ page (lv ∙ ap (λ (x : Block). x .level) c) (these ∙ ap (λ (x : Block). chosen s (x .entries)) c) in
           subst (λ (z : State). Ready (z .0) (z .1) gs part s l (chosen s (t .1))) (sym q)
-            (subst (λ (z : Block). Ready m (opened (kidsOf (blockAt m (t .0))) (t .0) cs) gs z s l (chosen s (t .1))) (sym v) (part-ready m cs gs n s l es p i at-i low-i high-i))
+          (subst (λ (z : Block). Ready m (opened (kidsOf (blockAt m (t .0))) (t .0) cs) gs z s l (chosen s (t .1))) (sym v) (part-ready m cs gs n s l es p i at-i low-i high-i))
 
       pub part-any : (l : ℕ) (es : List (ℕ × Pay ℕ ℕ l)) → Ready m cs gs n s l es → Able (q₁ .0) (q₁ .1) gs part s × (suc (part .level) ≡ n .level)
       part-any zero es p = absurd (above (ap (λ (x : Block). x .level) (p .is)))
-      part-any (suc l) es p =
-          (record { l = l; es = chosen s (getD es i (0, (0, [])) .1 .1); ready = inner l es p },
-           omega (arith, lv, ap (λ (x : Block). x .level) (child-is l es p), ap (λ (x : Block). x .level) (p .is)))
+      part-any (suc l) es p = (
+        record { l = l; es = chosen s (getD es i (0, (0, [])) .1 .1); ready = inner l es p },
+        omega (arith, lv, ap (λ (x : Block). x .level) (child-is l es p), ap (λ (x : Block). x .level) (p .is)),
+      )
 
       module _ (a : ℕ) (made : Block) (q₂ : State) (f : (l : ℕ) (es : List (ℕ × Pay ℕ ℕ l)) → Ready (q₁ .0) (q₁ .1) gs part s l es → Made (q₁ .0) (q₁ .1) (q₂ .0) (q₂ .1) gs s a l es made) where
         -- what linking needs
@@ -112,15 +118,16 @@ module _ (m : Meaning) (cs gs : List ℕ) (n : Block) (s : ℕ) where
             let w = moves-writes gs s a l (chosen s (t .1)) in
             let lp : part .level ≡ l = lv ∙ ap (λ (x : Block). x .level) (child-is l es p) in
             let pl = p .places j (omega (arith, ej, lp)) in
-            let pr = p .places (j + 1) (omega (arith, ej, lp)) in
-            ((omega (arith, r₁ .width, r₂ .width, p .wide .0), omega (arith, r₁ .width, r₂ .width, p .wide .1)),
-             omega (arith, r₁ .left, r₂ .left, w, p .left),
-             record { left-on = omega (arith, r₁ .blocks, r₂ .blocks, pl .0); left-in = omega (arith, r₁ .counts, r₂ .counts, pl .1); right-on = omega (arith, r₁ .blocks, r₂ .blocks, pr .0); right-in = omega (arith, r₁ .counts, r₂ .counts, pr .1) },
-             ap (λ (x : Block). x .level) (M .is) ∙ sym (ap (λ (x : Block). x .level) (child-is l es p)),
-             omega (arith, ap (λ (x : Block). x .level) (child-is l es p), ap (λ (x : Block). x .level) (p .is)))
+            let pr = p .places (j + 1) (omega (arith, ej, lp)) in (
+              (omega (arith, r₁ .width, r₂ .width, p .wide .0), omega (arith, r₁ .width, r₂ .width, p .wide .1)),
+              omega (arith, r₁ .left, r₂ .left, w, p .left),
+              record { left-on = omega (arith, r₁ .blocks, r₂ .blocks, pl .0); left-in = omega (arith, r₁ .counts, r₂ .counts, pl .1); right-on = omega (arith, r₁ .blocks, r₂ .blocks, pr .0); right-in = omega (arith, r₁ .counts, r₂ .counts, pr .1) },
+              ap (λ (x : Block). x .level) (M .is) ∙ sym (ap (λ (x : Block). x .level) (child-is l es p)),
+              omega (arith, ap (λ (x : Block). x .level) (child-is l es p), ap (λ (x : Block). x .level) (p .is)),
+            )
 
         pub up-any : (j : ℕ) → j ≡ 2 * part .level → (q₃ : State) (ks : List (ℕ × ℕ)) (r : Block) → By (child .level) (getD gs j 0) (getD gs (j + 1) 0) q₂ q₃ ks (parted s key (child .entries) (made .entries))
-          → r ≡ page (n .level) (take i (n .entries) ++ (ks ++ drop (suc i) (n .entries))) → (l : ℕ) (es : List (ℕ × Pay ℕ ℕ l)) → Ready m cs gs n s l es → Made m cs (q₃ .0) (q₃ .1) gs s a l es r
+            → r ≡ page (n .level) (take i (n .entries) ++ (ks ++ drop (suc i) (n .entries))) → (l : ℕ) (es : List (ℕ × Pay ℕ ℕ l)) → Ready m cs gs n s l es → Made m cs (q₃ .0) (q₃ .1) gs s a l es r
         up-any j ej q₃ ks r by e zero es p = absurd (above (ap (λ (x : Block). x .level) (p .is)))
         up-any j ej q₃ ks r by e (suc l) es p =
             let t : Tree ℕ ℕ l = getD es i (0, (0, [])) .1 in
@@ -132,10 +139,10 @@ module _ (m : Meaning) (cs gs : List ℕ) (n : Block) (s : ℕ) where
             let lp : part .level ≡ l = lv ∙ ap (λ (x : Block). x .level) c in
             let jl : j ≡ 2 * l = omega (arith, ej, lp) in
             let ps : parted s key (child .entries) (made .entries) ≡ parted s k (shallow l (t .1)) (shallow l (putN gs s a l (chosen s (t .1)))) =
-                  ap (λ (x : ℕ). parted s x (child .entries) (made .entries)) kt ∙ ap₂ (λ (x y : Block). parted s k (x .entries) (y .entries)) c (M .is) in
+            ap (λ (x : ℕ). parted s x (child .entries) (made .entries)) kt ∙ ap₂ (λ (x y : Block). parted s k (x .entries) (y .entries)) c (M .is) in
             let b₁ : By l (getD gs j 0) (getD gs (j + 1) 0) q₂ q₃ ks (parted s key (child .entries) (made .entries)) = subst (λ (x : ℕ). By x (getD gs j 0) (getD gs (j + 1) 0) q₂ q₃ ks (parted s key (child .entries) (made .entries))) (ap (λ (x : Block). x .level) c) by in
             let b₂ : By l (getD gs (2 * l) 0) (getD gs (2 * l + 1) 0) q₂ q₃ ks (parted s key (child .entries) (made .entries)) = subst (λ (x : ℕ). By l (getD gs x 0) (getD gs (x + 1) 0) q₂ q₃ ks (parted s key (child .entries) (made .entries))) jl b₁ in
             let b₃ = subst (By l (getD gs (2 * l) 0) (getD gs (2 * l + 1) 0) q₂ q₃ ks) ps b₂ in
             up m cs gs n s l es p i at-i low-i high-i a q₁ q₂ q₃ ks r (e₁ ∙ ap (λ (x : ℕ). step (opening x) (stateOf m cs)) bt) (M .state)
-              (subst (λ (w : ℕ). Laid w (moves gs s a l (chosen s (t .1)))) (ap (λ (z : State). z .0 .width) e₁) (M .laid)) b₃
-              (e ∙ ap (λ (x : ℕ). page x (take i (n .entries) ++ (ks ++ drop (suc i) (n .entries)))) (ap (λ (x : Block). x .level) (p .is)))
+            (subst (λ (w : ℕ). Laid w (moves gs s a l (chosen s (t .1)))) (ap (λ (z : State). z .0 .width) e₁) (M .laid)) b₃
+            (e ∙ ap (λ (x : ℕ). page x (take i (n .entries) ++ (ks ++ drop (suc i) (n .entries)))) (ap (λ (x : Block). x .level) (p .is)))

@@ -111,7 +111,7 @@ seg-get W s lo hi (e ∷ x ∷ r) zero d p h a b = (p .1 .0, p .1 .1, omega (ari
 seg-get W s lo hi (e ∷ r) (suc i) d p h a b = seg-get W s (p .1 .0) hi r i d (p .1 .2) (omega arith) a (λ j. b (omega arith))
 
 down-index : {X : Type 0} (W : ℕ → ℕ → X → Type 0) (wle : (k m : ℕ) (x : X) → W k m x → k ≤ m) (s : ℕ) (f : ℕ → X → List Move) (lo hi : ℕ) (es : List (ℕ × X)) (i : ℕ) (d : ℕ × X) → Seg _≡_ W lo hi es → i < length es → getD es i d .0 ≤ s → (suc i < length es → s < getD es (suc i) d .0)
-  → down s f es ≡ f (getD es i d .0) (getD es i d .1)
+    → down s f es ≡ f (getD es i d .0) (getD es i d .1)
 down-index W wle s f lo hi [] i d p h k n = absurd (not-suc-le-zero h)
 down-index W wle s f lo hi (e ∷ r) zero d p h k n = rw (ahead-yes W wle s e r d n)
 down-index W wle s f lo hi (e ∷ r) (suc i) d p h k n =
@@ -140,29 +140,56 @@ module _ (m : Meaning) (s l k mid : ℕ) (es : List (ℕ × Pay ℕ ℕ l)) (sto
 
   part-all : (length es ≡ 15 → ⊥) → Part m s l es es []
   part-all n = record {
-      stored = stored; lo = k; hi = mid; span = loosen l k mid es (p .0); low = low; high = high; room = omega (arith, n, p .2); some = enough-some l (length es) (p .1);
-      occs = λ b. omega (arith, kids-le b l []); few = omega arith }
+    stored = stored;
+    lo = k;
+    hi = mid;
+    span = loosen l k mid es (p .0);
+    low = low;
+    high = high;
+    room = omega (arith, n, p .2);
+    some = enough-some l (length es) (p .1);
+    occs = λ b. omega (arith, kids-le b l []);
+    few = omega arith;
+  }
 
   part-low : length es ≡ 15 → s < first (drop 7 es) → Part m s l es (take 7 es) (drop 7 es)
   part-low n h =
       let q = span-cut ℕ ℕ l k mid 7 es (omega arith) (p .0) in
       record {
-        stored = every-take (Stored (blockAt m) l) 7 es stored; lo = k; hi = first (drop 7 es); span = loosen l k (first (drop 7 es)) (take 7 es) (q .0); low = low; high = h;
-        room = omega (arith, length-take 7 es); some = λ z. omega (arith, length-take 7 es); occs = halves; few = omega (arith, length-drop 7 es) }
+        stored = every-take (Stored (blockAt m) l) 7 es stored;
+        lo = k;
+        hi = first (drop 7 es);
+        span = loosen l k (first (drop 7 es)) (take 7 es) (q .0);
+        low = low;
+        high = h;
+        room = omega (arith, length-take 7 es);
+        some = λ z. omega (arith, length-take 7 es);
+        occs = halves;
+        few = omega (arith, length-drop 7 es);
+      }
 
   part-high : length es ≡ 15 → first (drop 7 es) ≤ s → Part m s l es (drop 7 es) (take 7 es)
   part-high n h =
       let q = span-cut ℕ ℕ l k mid 7 es (omega arith) (p .0) in
       record {
-        stored = every-drop (Stored (blockAt m) l) 7 es stored; lo = first (drop 7 es); hi = mid; span = loosen l (first (drop 7 es)) mid (drop 7 es) (q .1); low = h; high = high;
-        room = omega (arith, length-drop 7 es); some = λ z. omega (arith, length-drop 7 es); occs = λ b. omega (arith, halves b); few = omega (arith, length-take 7 es) }
+        stored = every-drop (Stored (blockAt m) l) 7 es stored;
+        lo = first (drop 7 es);
+        hi = mid;
+        span = loosen l (first (drop 7 es)) mid (drop 7 es) (q .1);
+        low = h;
+        high = high;
+        room = omega (arith, length-drop 7 es);
+        some = λ z. omega (arith, length-drop 7 es);
+        occs = λ b. omega (arith, halves b);
+        few = omega (arith, length-take 7 es);
+      }
 
   part : Part m s l es (chosen s es) (unchosen s es)
   part = ⊎-elim
       (λ n. ⊎-elim
-        (λ h. rw (eq-eqb (length es) 15 n, lt-ltb s (first (drop 7 es)) h) (part-low n h))
-        (λ h. rw (eq-eqb (length es) 15 n, le-ltb s (first (drop 7 es)) h) (part-high n h))
-        (cases-lt s (first (drop 7 es))))
+      (λ h. rw (eq-eqb (length es) 15 n, lt-ltb s (first (drop 7 es)) h) (part-low n h))
+      (λ h. rw (eq-eqb (length es) 15 n, le-ltb s (first (drop 7 es)) h) (part-high n h))
+      (cases-lt s (first (drop 7 es))))
       (λ n. rw (ne-eqb (length es) 15 n) (part-all n))
       (cases-eq (length es) 15)
 
@@ -223,7 +250,14 @@ module _ (m : Meaning) (cs gs : List ℕ) (n : Block) (s l : ℕ) (es : List (�
       let kk = λ (b : ℕ). ap (λ (o : List ℕ). occ b o) (ap kidsOf child-node) in
       record {
         is = ap (page l) (chosen-shallow s l (t .1));
-        stored = a .stored; lo = a .lo; hi = a .hi; span = a .span; low = a .low; high = a .high; room = a .room; enough = a .some;
+        stored = a .stored;
+        lo = a .lo;
+        hi = a .hi;
+        span = a .span;
+        low = a .low;
+        high = a .high;
+        room = a .room;
+        enough = a .some;
         others = λ b. occ b (kids l (unchosen s (t .1))) + sides b;
         counted = recount (λ b. occ b (kidsOf (blockAt m (t .0))) + sides b) (λ b. occ b (kids l (chosen s (t .1))) + (occ b (kids l (unchosen s (t .1))) + sides b)) (λ b. omega (arith, a .occs b, kk b)) (open-counted m cs sides (t .0) held);
         modest = λ b. omega (arith, sides-le b, kids-le b l (unchosen s (t .1)), a .few);
@@ -234,8 +268,8 @@ module _ (m : Meaning) (cs gs : List ℕ) (n : Block) (s l : ℕ) (es : List (�
       }
 
   pub up : (a : ℕ) (q₁ q₂ q₃ : State) (ks : List (ℕ × ℕ)) (r : Block) → q₁ ≡ step (opening (t .0)) (stateOf m cs) → q₂ ≡ run (moves gs s a l (chosen s (t .1))) q₁ → Laid (m .width) (moves gs s a l (chosen s (t .1)))
-    → By l (getD gs (2 * l) 0) (getD gs (2 * l + 1) 0) q₂ q₃ ks (parted s k (shallow l (t .1)) (shallow l (putN gs s a l (chosen s (t .1)))))
-    → r ≡ page (suc l) (take i (n .entries) ++ (ks ++ drop (suc i) (n .entries))) → Made m cs (q₃ .0) (q₃ .1) gs s a (suc l) es r
+      → By l (getD gs (2 * l) 0) (getD gs (2 * l + 1) 0) q₂ q₃ ks (parted s k (shallow l (t .1)) (shallow l (putN gs s a l (chosen s (t .1)))))
+      → r ≡ page (suc l) (take i (n .entries) ++ (ks ++ drop (suc i) (n .entries))) → Made m cs (q₃ .0) (q₃ .1) gs s a (suc l) es r
   up a q₁ q₂ q₃ ks r e₁ e₂ laid by e =
       let F = λ (c : Tree ℕ ℕ l). c .0 in
       let x = getD gs (2 * l) 0 in
@@ -253,8 +287,8 @@ module _ (m : Meaning) (cs gs : List ℕ) (n : Block) (s l : ℕ) (es : List (�
       let w : q₂ .0 .width ≡ m .width = same-by (moves gs s a l (chosen s (t .1))) q₁ q₂ e₂ .width ∙ ap (λ (q : State). q .0 .width) e₁ in
       record {
         is = e ∙ ap (page (suc l)) (ap₂ (λ (u v : List (ℕ × ℕ)). u ++ (ks ++ v)) tk dr ∙ ap (λ (u : List (ℕ × ℕ)). mapE F (take i es) ++ (u ++ mapE F (drop (suc i) es))) keys
-          ∙ ap (λ (u : List (ℕ × ℕ)). mapE F (take i es) ++ u) (sym (map-append F (K k t) (drop (suc i) es))) ∙ sym (map-append F (take i es) (K k t ++ drop (suc i) es)) ∙ ap (mapE F) (sym at-is));
+            ∙ ap (λ (u : List (ℕ × ℕ)). mapE F (take i es) ++ u) (sym (map-append F (K k t) (drop (suc i) es))) ∙ sym (map-append F (take i es) (K k t ++ drop (suc i) es)) ∙ ap (mapE F) (sym at-is));
         state = by .state ∙ ap (λ (v : List Move). run v q₂) lk ∙ ap (run (links l (mapE (λ c. (c .0, shallow l (c .1))) (placed x y ps)))) (e₂ ∙ ap (run (moves gs s a l (chosen s (t .1)))) e₁)
-          ∙ sym (run-append (moves gs s a l (chosen s (t .1))) (links l (mapE (λ c. (c .0, shallow l (c .1))) (placed x y ps))) (step (opening (t .0)) (stateOf m cs))) ∙ ap (λ (v : List Move). run v (stateOf m cs)) (sym mv);
+            ∙ sym (run-append (moves gs s a l (chosen s (t .1))) (links l (mapE (λ c. (c .0, shallow l (c .1))) (placed x y ps))) (step (opening (t .0)) (stateOf m cs))) ∙ ap (λ (v : List Move). run v (stateOf m cs)) (sym mv);
         laid = subst (Laid (m .width)) (sym mv) (tt, laid-append (m .width) (moves gs s a l (chosen s (t .1))) _ laid (subst (Laid (m .width)) lk (subst (λ (v : ℕ). Laid v (links l (placed x y (parted s k (shallow l (t .1)) (shallow l made))))) w (by .laid))));
       }

@@ -29,7 +29,7 @@ record Opened (gs : List ℕ) (N l : ℕ) (mid : List (ℕ × Tree ℕ ℕ l)) (
   stays : (b : ℕ) → getD (q .1) b 0 ≡ 0 → getD (q′ .1) b 0 ≡ 0
 
 open-all : (gs : List ℕ) (N l : ℕ) (mid : List (ℕ × Tree ℕ ℕ l)) (h : ℕ → ℕ) (q : State) → Every (Stored (blockAt (q .0)) (suc l)) mid → Counted (blockAt (q .0)) (q .1) (λ b. occ b (kids (suc l) mid) + h b) → Free (q .0) (q .1) gs N
-  → Opened gs N l mid h q (run (opens mid) q)
+    → Opened gs N l mid h q (run (opens mid) q)
 open-all gs N l [] h q st c f = record { device = refl; counted = c; free = f; stays = λ b z. z }
 open-all gs N l (e ∷ r) h q st c f =
     let x = e .1 .0 in
@@ -61,9 +61,9 @@ module _ (gs : List ℕ) (N l : ℕ) (mid : List (ℕ × Tree ℕ ℕ l)) (part 
 
   -- What is to be shown of an edit: the recursion's own claim, and that the parts stand for what was made and what is left.
   pub replaced : ((q₁ : State) (h₁ : ℕ → ℕ) → Every (Stored (blockAt (q₁ .0)) l) part → Counted (blockAt (q₁ .0)) (q₁ .1) (λ b. occ b (kids l part) + h₁ b) → Free (q₁ .0) (q₁ .1) gs N → Laid (q₁ .0 .width) ms → Stands gs l h₁ q₁ (run ms q₁) us)
-    → ((q₂ : State) → getD (q₂ .1) x 0 ≡ 0 → x < length (q₂ .1) → x < blocksOf (q₂ .0) → getD (q₂ .1) y 0 ≡ 0 → y < length (q₂ .1) → y < blocksOf (q₂ .0) → (x ≡ y → ⊥) → Every (Stored (blockAt (q₂ .0)) l) us → Every (Stored (blockAt (q₂ .0)) l) rest
-       → Counted (blockAt (q₂ .0)) (q₂ .1) (λ b. occ b (kids l us) + (occ b (kids l rest) + h b)) → Laid (q₂ .0 .width) ls → Good l h x y q₂ (run ls q₂) (placed x y ps))
-    → Laid (q .0 .width) (opens mid ++ (ms ++ ls)) → Stands gs (suc l) h q (run (opens mid ++ (ms ++ ls)) q) (placed x y ps)
+      → ((q₂ : State) → getD (q₂ .1) x 0 ≡ 0 → x < length (q₂ .1) → x < blocksOf (q₂ .0) → getD (q₂ .1) y 0 ≡ 0 → y < length (q₂ .1) → y < blocksOf (q₂ .0) → (x ≡ y → ⊥) → Every (Stored (blockAt (q₂ .0)) l) us → Every (Stored (blockAt (q₂ .0)) l) rest
+      → Counted (blockAt (q₂ .0)) (q₂ .1) (λ b. occ b (kids l us) + (occ b (kids l rest) + h b)) → Laid (q₂ .0 .width) ls → Good l h x y q₂ (run ls q₂) (placed x y ps))
+      → Laid (q .0 .width) (opens mid ++ (ms ++ ls)) → Stands gs (suc l) h q (run (opens mid ++ (ms ++ ls)) q) (placed x y ps)
   replaced ih build laid =
       let q₁ : State = run (opens mid) q in
       let q₂ : State = run ms q₁ in
@@ -85,21 +85,21 @@ module _ (gs : List ℕ) (N l : ℕ) (mid : List (ℕ × Tree ℕ ℕ l)) (part 
       let ox = f₁ .on (2 * l) (omega arith) in
       let oy = f₁ .on (2 * l + 1) (omega arith) in
       let G = build q₂ fx (omega (arith, ox .1, z .counts)) (omega (arith, ox .0, z .blocks)) fy (omega (arith, oy .1, z .counts)) (omega (arith, oy .0, z .blocks)) (λ e. f .apart (2 * l) (2 * l + 1) (omega arith) (omega arith) e)
-                (S .stored) sr₂ (S .counted) (subst (λ (w : ℕ). Laid w ls) (sym (z .width ∙ wide)) (lp .1)) in
+      (S .stored) sr₂ (S .counted) (subst (λ (w : ℕ). Laid w ls) (sym (z .width ∙ wide)) (lp .1)) in
       subst (λ (r : State). Stands gs (suc l) h q r (placed x y ps)) (sym (run-append (opens mid) (ms ++ ls) q ∙ run-append ms ls q₁))
-        (record {
-          stored = G .stored;
-          counted = G .counted;
-          kept = record {
-            cells = λ b out. G .cells b (out (2 * l) (omega arith)) (out (2 * l + 1) (omega arith)) ∙ S .kept .cells b (λ j lt. out j (omega arith)) ∙ ap (λ (m : Meaning). getD (m .cells) b noCell) dev;
-            free = λ b out v. G .counts b (out (2 * l) (omega arith)) (out (2 * l + 1) (omega arith)) ∙ S .kept .free b (λ j lt. out j (omega arith)) (o .stays b v);
-          };
-        })
+      (record {
+        stored = G .stored;
+        counted = G .counted;
+        kept = record {
+          cells = λ b out. G .cells b (out (2 * l) (omega arith)) (out (2 * l + 1) (omega arith)) ∙ S .kept .cells b (λ j lt. out j (omega arith)) ∙ ap (λ (m : Meaning). getD (m .cells) b noCell) dev;
+          free = λ b out v. G .counts b (out (2 * l) (omega arith)) (out (2 * l + 1) (omega arith)) ∙ S .kept .free b (λ j lt. out j (omega arith)) (o .stays b v);
+        };
+      })
 
 -- among the other children of the block
 pub among : (gs : List ℕ) (N l : ℕ) (pre mid post us : List (ℕ × Tree ℕ ℕ l)) (h : ℕ → ℕ) (q q′ : State) → Every (Stored (blockAt (q .0)) (suc l)) pre → Every (Stored (blockAt (q .0)) (suc l)) post
-  → Counted (blockAt (q .0)) (q .1) (λ b. occ b (kids (suc l) (pre ++ (mid ++ post))) + h b) → Free (q .0) (q .1) gs N → 2 * suc l ≤ N
-  → Stands gs (suc l) (λ b. (occ b (kids (suc l) pre) + occ b (kids (suc l) post)) + h b) q q′ us → Stands gs (suc l) h q q′ (pre ++ (us ++ post))
+    → Counted (blockAt (q .0)) (q .1) (λ b. occ b (kids (suc l) (pre ++ (mid ++ post))) + h b) → Free (q .0) (q .1) gs N → 2 * suc l ≤ N
+    → Stands gs (suc l) (λ b. (occ b (kids (suc l) pre) + occ b (kids (suc l) post)) + h b) q q′ us → Stands gs (suc l) h q q′ (pre ++ (us ++ post))
 among gs N l pre mid post us h q q′ sp so c f le S =
     let H : ℕ → ℕ = λ b. occ b (kids (suc l) (pre ++ (mid ++ post))) + h b in
     let all = λ (b : ℕ). kids-append b (suc l) pre (mid ++ post) in
@@ -107,9 +107,9 @@ among gs N l pre mid post us h q q′ sp so c f le S =
     let same = same-live gs (2 * suc l) N q q′ f le (S .kept) in
     record {
       stored = every-append (Stored (blockAt (q′ .0)) (suc l)) pre (us ++ post)
-        (frame (q .0) (blockAt (q′ .0)) (q .1) H c same (suc l) pre (λ b p. omega (arith, c .eqn b, all b)) sp)
-        (every-append (Stored (blockAt (q′ .0)) (suc l)) us post (S .stored) (frame (q .0) (blockAt (q′ .0)) (q .1) H c same (suc l) post (λ b p. omega (arith, c .eqn b, all b, some b)) so));
+          (frame (q .0) (blockAt (q′ .0)) (q .1) H c same (suc l) pre (λ b p. omega (arith, c .eqn b, all b)) sp)
+          (every-append (Stored (blockAt (q′ .0)) (suc l)) us post (S .stored) (frame (q .0) (blockAt (q′ .0)) (q .1) H c same (suc l) post (λ b p. omega (arith, c .eqn b, all b, some b)) so));
       counted = recount (λ b. occ b (kids (suc l) us) + ((occ b (kids (suc l) pre) + occ b (kids (suc l) post)) + h b)) (λ b. occ b (kids (suc l) (pre ++ (us ++ post))) + h b)
-        (λ b. omega (arith, kids-append b (suc l) pre (us ++ post), kids-append b (suc l) us post)) (S .counted);
+          (λ b. omega (arith, kids-append b (suc l) pre (us ++ post), kids-append b (suc l) us post)) (S .counted);
       kept = S .kept;
     }

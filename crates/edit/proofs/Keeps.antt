@@ -34,21 +34,24 @@ blockAt-cells m m′ b e = ap (λ (c : Cell). blockIn (c .current)) e
 
 -- what is stored below live blocks is stored where these are the same
 pub frame : (m : Meaning) (g : ℕ → Option Block) (cs : List ℕ) (h : ℕ → ℕ) → Counted (blockAt m) cs h → ((b : ℕ) → 0 < getD cs b 0 → g b ≡ blockAt m b)
-  → (l : ℕ) (es : List (ℕ × Pay ℕ ℕ l)) → ((b : ℕ) → 0 < occ b (kids l es) → 0 < getD cs b 0) → Every (Stored (blockAt m) l) es → Every (Stored g l) es
+    → (l : ℕ) (es : List (ℕ × Pay ℕ ℕ l)) → ((b : ℕ) → 0 < occ b (kids l es) → 0 < getD cs b 0) → Every (Stored (blockAt m) l) es → Every (Stored g l) es
 frame m g cs h c same zero [] a p = tt
 frame m g cs h c same zero (e ∷ r) a p = (tt, frame m g cs h c same zero r a (p .1))
 frame m g cs h c same (suc l) es a p = go (frame m g cs h c same l) es a p
   where
     go : ((es : List (ℕ × Pay ℕ ℕ l)) → ((b : ℕ) → 0 < occ b (kids l es) → 0 < getD cs b 0) → Every (Stored (blockAt m) l) es → Every (Stored g l) es)
-      → (es : List (ℕ × Tree ℕ ℕ l)) → ((b : ℕ) → 0 < occ b (kids (suc l) es) → 0 < getD cs b 0) → Every (Stored (blockAt m) (suc l)) es → Every (Stored g (suc l)) es
+        → (es : List (ℕ × Tree ℕ ℕ l)) → ((b : ℕ) → 0 < occ b (kids (suc l) es) → 0 < getD cs b 0) → Every (Stored (blockAt m) (suc l)) es → Every (Stored g (suc l)) es
     go ih [] a p = tt
     go ih (e ∷ r) a p =
         let x = e .1 .0 in
         let ax : 0 < getD cs x 0 = a x (omega (arith, one-same x x refl)) in
-        let st = p .0 .0 in
-        ((same x ax ∙ st,
-          ih (e .1 .1) (λ b q. kids-alive m cs h x b c ax (subst (λ (o : Option Block). 0 < occ b (kidsOf o)) (sym st) q)) (p .0 .1)),
-         go ih r (λ b q. a b (omega arith)) (p .1))
+        let st = p .0 .0 in (
+          (
+            same x ax ∙ st,
+            ih (e .1 .1) (λ b q. kids-alive m cs h x b c ax (subst (λ (o : Option Block). 0 < occ b (kidsOf o)) (sym st) q)) (p .0 .1),
+          ),
+          go ih r (λ b q. a b (omega arith)) (p .1),
+        )
 
 -- references in hand are to live blocks
 in-hand : (g : ℕ → Option Block) (cs : List ℕ) (h : ℕ → ℕ) (l : ℕ) (es : List (ℕ × Pay ℕ ℕ l)) → Counted g cs (λ b. occ b (kids l es) + h b) → (b : ℕ) → 0 < occ b (kids l es) → 0 < getD cs b 0
@@ -88,9 +91,9 @@ module _ (q : State) (x l : ℕ) (us : List (ℕ × Pay ℕ ℕ l)) (h : ℕ →
   pub link-counted : Counted (blockAt (q′ .0)) (q′ .1) (λ b. one x b + h b)
   link-counted =
       link-in (blockAt (q .0)) (blockAt (q′ .0)) (q .1) h x link-blockAt free within
-        (subst (λ (o : Option Block). (isSome o ≡ true) × (levelOf o < 5)) (sym link-there) (refl, laid .low))
-        (λ y p. kids-level (blockAt (q .0)) l us stored y (subst (λ (o : Option Block). 0 < occ y (kidsOf o)) link-there p) ∙ ap levelOf (sym link-there))
-        (subst (λ (o : Option Block). Counted (blockAt (q .0)) (q .1) (λ b. occ b (kidsOf o) + h b)) (sym link-there) c)
+      (subst (λ (o : Option Block). (isSome o ≡ true) × (levelOf o < 5)) (sym link-there) (refl, laid .low))
+      (λ y p. kids-level (blockAt (q .0)) l us stored y (subst (λ (o : Option Block). 0 < occ y (kidsOf o)) link-there p) ∙ ap levelOf (sym link-there))
+      (subst (λ (o : Option Block). Counted (blockAt (q .0)) (q .1) (λ b. occ b (kidsOf o) + h b)) (sym link-there) c)
 
   pub link-stored : Stored (blockAt (q′ .0)) (suc l) (x, us)
   link-stored = (link-there, frame (q .0) (blockAt (q′ .0)) (q .1) (λ b. occ b (kids l us) + h b) c link-live l us (in-hand (blockAt (q .0)) (q .1) h l us c) stored)
@@ -121,7 +124,7 @@ module _ (l : ℕ) (h : ℕ → ℕ) (x y : ℕ) (q : State) (fx : getD (q .1) x
       }
 
   pub good-two : (k j : ℕ) (xs ys : List (ℕ × Pay ℕ ℕ l)) → Every (Stored (blockAt (q .0)) l) xs → Every (Stored (blockAt (q .0)) l) ys → Counted (blockAt (q .0)) (q .1) (λ b. occ b (kids l xs) + (occ b (kids l ys) + h b))
-    → Layout (q .0 .width) (nodeOf l xs) → Layout (q .0 .width) (nodeOf l ys) → Good l h x y q (after ((k, xs) ∷ (j, ys) ∷ [])) ((k, (x, xs)) ∷ (j, (y, ys)) ∷ [])
+      → Layout (q .0 .width) (nodeOf l xs) → Layout (q .0 .width) (nodeOf l ys) → Good l h x y q (after ((k, xs) ∷ (j, ys) ∷ [])) ((k, (x, xs)) ∷ (j, (y, ys)) ∷ [])
   good-two k j xs ys sx sy c zx zy =
       let h₁ : ℕ → ℕ = λ b. occ b (kids l ys) + h b in
       let q₁ : State = step (linking x (nodeOf l xs)) q in
@@ -142,17 +145,17 @@ module _ (l : ℕ) (h : ℕ → ℕ) (x y : ℕ) (q : State) (fx : getD (q .1) x
       }
 
   pub good : (s k : ℕ) (es made : List (ℕ × Pay ℕ ℕ l)) → Every (Stored (blockAt (q .0)) l) made → Every (Stored (blockAt (q .0)) l) (unchosen s es) → Counted (blockAt (q .0)) (q .1) (λ b. occ b (kids l made) + (occ b (kids l (unchosen s es)) + h b))
-    → Laid (q .0 .width) (links l (mapE (λ c. (c .0, shallow l (c .1))) (placed x y (parted s k es made)))) → Good l h x y q (after (parted s k es made)) (placed x y (parted s k es made))
+      → Laid (q .0 .width) (links l (mapE (λ c. (c .0, shallow l (c .1))) (placed x y (parted s k es made)))) → Good l h x y q (after (parted s k es made)) (placed x y (parted s k es made))
   good s k es made sm =
       ⊎-elim
       (λ n. ⊎-elim
-        (λ v. rw (eq-eqb (length es) 15 n, lt-ltb s (first (drop 7 es)) v) (λ su c z. good-two k (first (drop 7 es)) made (drop 7 es) sm su c (z .0) (z .1 .0)))
-        (λ v. rw (eq-eqb (length es) 15 n, le-ltb s (first (drop 7 es)) v)
-          (λ su c z. good-two k (first (drop 7 es)) (take 7 es) made su sm
-            (recount (λ b. occ b (kids l made) + (occ b (kids l (take 7 es)) + h b)) (λ b. occ b (kids l (take 7 es)) + (occ b (kids l made) + h b)) (λ b. omega arith) c) (z .0) (z .1 .0)))
-        (cases-lt s (first (drop 7 es))))
+      (λ v. rw (eq-eqb (length es) 15 n, lt-ltb s (first (drop 7 es)) v) (λ su c z. good-two k (first (drop 7 es)) made (drop 7 es) sm su c (z .0) (z .1 .0)))
+      (λ v. rw (eq-eqb (length es) 15 n, le-ltb s (first (drop 7 es)) v)
+      (λ su c z. good-two k (first (drop 7 es)) (take 7 es) made su sm
+      (recount (λ b. occ b (kids l made) + (occ b (kids l (take 7 es)) + h b)) (λ b. occ b (kids l (take 7 es)) + (occ b (kids l made) + h b)) (λ b. omega arith) c) (z .0) (z .1 .0)))
+      (cases-lt s (first (drop 7 es))))
       (λ n. rw (ne-eqb (length es) 15 n) (λ su c z. good-one k made sm
-        (recount (λ b. occ b (kids l made) + (occ b (kids l []) + h b)) (λ b. occ b (kids l made) + (0 + h b)) (λ b. omega (arith, kids-nil b l)) c) (z .0)))
+      (recount (λ b. occ b (kids l made) + (occ b (kids l []) + h b)) (λ b. occ b (kids l made) + (0 + h b)) (λ b. omega (arith, kids-nil b l)) c) (z .0)))
       (cases-eq (length es) 15)
     where
       kids-nil : (b l : ℕ) → occ b (kids l []) ≡ 0
@@ -173,9 +176,11 @@ occ-chosen b s l es = go (eqb (length es) 15) (ltb s (first (drop 7 es)))
   where
     halves : occ b (kids l es) ≡ occ b (kids l (take 7 es)) + occ b (kids l (drop 7 es))
     halves = ap (λ (z : List (ℕ × Pay ℕ ℕ l)). occ b (kids l z)) (sym (take-append-drop 7 es)) ∙ kids-append b l (take 7 es) (drop 7 es)
+
     none : (l : ℕ) → occ b (kids l []) ≡ 0
     none zero = refl
     none (suc l) = refl
+
     go : (t d : Bool) → occ b (kids l es) ≡ occ b (kids l (cond t (cond d (take 7 es) (drop 7 es)) es)) + occ b (kids l (cond t (cond d (drop 7 es) (take 7 es)) []))
     go true true = halves
     go true false = omega (arith, halves)
@@ -193,19 +198,20 @@ kept-refl gs n q = record { cells = λ b o. refl; free = λ b o z. z }
 
 pub free-open : (gs : List ℕ) (N : ℕ) (q : State) (h : ℕ → ℕ) (x : ℕ) → Counted (blockAt (q .0)) (q .1) (λ b. one x b + h b) → Free (q .0) (q .1) gs N → Free (q .0) (step (opening x) q .1) gs N
 free-open gs N q h x c f = record {
-    count = λ j lt. open-free (q .0) (q .1) h x (getD gs j 0) c (f .count j lt);
-    on = λ j lt. (f .on j lt .0, omega (arith, f .on j lt .1, length-opened (kidsOf (blockAt (q .0) x)) x (q .1)));
-    apart = f .apart }
+  count = λ j lt. open-free (q .0) (q .1) h x (getD gs j 0) c (f .count j lt);
+  on = λ j lt. (f .on j lt .0, omega (arith, f .on j lt .1, length-opened (kidsOf (blockAt (q .0) x)) x (q .1)));
+  apart = f .apart;
+}
 
 module _ (gs : List ℕ) (s a N : ℕ) where
   Claim : (l : ℕ) → Type 0
   Claim l = (es : List (ℕ × Pay ℕ ℕ l)) (q : State) (h : ℕ → ℕ) → Every (Stored (blockAt (q .0)) l) es → Counted (blockAt (q .0)) (q .1) (λ b. occ b (kids l es) + h b) → Free (q .0) (q .1) gs N → 2 * l ≤ N
-    → Laid (q .0 .width) (moves gs s a l es) → Stands gs l h q (run (moves gs s a l es) q) (putN gs s a l es)
+      → Laid (q .0 .width) (moves gs s a l es) → Stands gs l h q (run (moves gs s a l es) q) (putN gs s a l es)
 
   kid-keeps : (l : ℕ) → ((es : List (ℕ × Pay ℕ ℕ l)) (q : State) (h : ℕ → ℕ) → Every (Stored (blockAt (q .0)) l) es → Counted (blockAt (q .0)) (q .1) (λ b. occ b (kids l es) + h b) → Free (q .0) (q .1) gs N → 2 * l ≤ N
-    → Laid (q .0 .width) (moves gs s a l es) → Stands gs l h q (run (moves gs s a l es) q) (putN gs s a l es))
-    → (k : ℕ) (t : Tree ℕ ℕ l) (q : State) (h : ℕ → ℕ) → Stored (blockAt (q .0)) (suc l) t → Counted (blockAt (q .0)) (q .1) (λ b. one (t .0) b + h b) → Free (q .0) (q .1) gs N → 2 * suc l ≤ N
-    → Laid (q .0 .width) (kidMoves gs s a l (moves gs s a l) k t) → Stands gs (suc l) h q (run (kidMoves gs s a l (moves gs s a l) k t) q) (kidN gs s a l (putN gs s a l) k t)
+      → Laid (q .0 .width) (moves gs s a l es) → Stands gs l h q (run (moves gs s a l es) q) (putN gs s a l es))
+      → (k : ℕ) (t : Tree ℕ ℕ l) (q : State) (h : ℕ → ℕ) → Stored (blockAt (q .0)) (suc l) t → Counted (blockAt (q .0)) (q .1) (λ b. one (t .0) b + h b) → Free (q .0) (q .1) gs N → 2 * suc l ≤ N
+      → Laid (q .0 .width) (kidMoves gs s a l (moves gs s a l) k t) → Stands gs (suc l) h q (run (kidMoves gs s a l (moves gs s a l) k t) q) (kidN gs s a l (putN gs s a l) k t)
   kid-keeps l ih k t q h st c f le laid =
       let m = q .0 in
       let es = t .1 in
@@ -233,19 +239,19 @@ module _ (gs : List ℕ) (s a N : ℕ) where
       let ox = f₁ .on (2 * l) (omega arith) in
       let oy = f₁ .on (2 * l + 1) (omega arith) in
       let G = good l h x y q₂ fx (omega (arith, ox .1, z .counts)) (omega (arith, ox .0, z .blocks)) fy (omega (arith, oy .1, z .counts)) (omega (arith, oy .0, z .blocks)) (λ e. f .apart (2 * l) (2 * l + 1) (omega arith) (omega arith) e)
-                s k es us (S .stored) ys₂ (S .counted) (subst (λ (w : ℕ). Laid w ls) (sym (z .width)) (parts .1)) in
+      s k es us (S .stored) ys₂ (S .counted) (subst (λ (w : ℕ). Laid w ls) (sym (z .width)) (parts .1)) in
       subst (λ (r : State). Stands gs (suc l) h q r (kidN gs s a l (putN gs s a l) k t)) (sym (run-append ms ls q₁))
-        (record {
-          stored = G .stored;
-          counted = G .counted;
-          kept = record {
-            cells = λ b o. G .cells b (o (2 * l) (omega arith)) (o (2 * l + 1) (omega arith)) ∙ S .kept .cells b (λ j lt. o j (omega arith));
-            free = λ b o v. G .counts b (o (2 * l) (omega arith)) (o (2 * l + 1) (omega arith)) ∙ S .kept .free b (λ j lt. o j (omega arith)) (open-free m (q .1) h (t .0) b c v);
-          };
-        })
+      (record {
+        stored = G .stored;
+        counted = G .counted;
+        kept = record {
+          cells = λ b o. G .cells b (o (2 * l) (omega arith)) (o (2 * l + 1) (omega arith)) ∙ S .kept .cells b (λ j lt. o j (omega arith));
+          free = λ b o v. G .counts b (o (2 * l) (omega arith)) (o (2 * l + 1) (omega arith)) ∙ S .kept .free b (λ j lt. o j (omega arith)) (open-free m (q .1) h (t .0) b c v);
+        };
+      })
 
   pub keeps : (l : ℕ) (es : List (ℕ × Pay ℕ ℕ l)) (q : State) (h : ℕ → ℕ) → Every (Stored (blockAt (q .0)) l) es → Counted (blockAt (q .0)) (q .1) (λ b. occ b (kids l es) + h b) → Free (q .0) (q .1) gs N → 2 * l ≤ N
-    → Laid (q .0 .width) (moves gs s a l es) → Stands gs l h q (run (moves gs s a l es) q) (putN gs s a l es)
+      → Laid (q .0 .width) (moves gs s a l es) → Stands gs l h q (run (moves gs s a l es) q) (putN gs s a l es)
   keeps zero es q h st c f le laid = record { stored = every-unit (ins s a es); counted = c; kept = kept-refl gs 0 q }
     where
       every-unit : (es : List (ℕ × ℕ)) → Every (Stored (blockAt (q .0)) zero) es
@@ -254,16 +260,16 @@ module _ (gs : List ℕ) (s a N : ℕ) where
   keeps (suc l) es q h st c f le laid = go (keeps l) es h st c laid
     where
       go : ((es : List (ℕ × Pay ℕ ℕ l)) (q : State) (h : ℕ → ℕ) → Every (Stored (blockAt (q .0)) l) es → Counted (blockAt (q .0)) (q .1) (λ b. occ b (kids l es) + h b) → Free (q .0) (q .1) gs N → 2 * l ≤ N
-        → Laid (q .0 .width) (moves gs s a l es) → Stands gs l h q (run (moves gs s a l es) q) (putN gs s a l es))
-        → (es : List (ℕ × Tree ℕ ℕ l)) (h : ℕ → ℕ) → Every (Stored (blockAt (q .0)) (suc l)) es → Counted (blockAt (q .0)) (q .1) (λ b. occ b (kids (suc l) es) + h b)
-        → Laid (q .0 .width) (down s (kidMoves gs s a l (moves gs s a l)) es) → Stands gs (suc l) h q (run (down s (kidMoves gs s a l (moves gs s a l)) es) q) (at s (kidN gs s a l (putN gs s a l)) es)
+          → Laid (q .0 .width) (moves gs s a l es) → Stands gs l h q (run (moves gs s a l es) q) (putN gs s a l es))
+          → (es : List (ℕ × Tree ℕ ℕ l)) (h : ℕ → ℕ) → Every (Stored (blockAt (q .0)) (suc l)) es → Counted (blockAt (q .0)) (q .1) (λ b. occ b (kids (suc l) es) + h b)
+          → Laid (q .0 .width) (down s (kidMoves gs s a l (moves gs s a l)) es) → Stands gs (suc l) h q (run (down s (kidMoves gs s a l (moves gs s a l)) es) q) (at s (kidN gs s a l (putN gs s a l)) es)
       go ih [] h st c laid = record { stored = tt; counted = c; kept = kept-refl gs (2 * suc l) q }
       go ih (e ∷ r) h st c laid = by (ahead s r) (λ c′ z. go ih r (λ b. one (e .1 .0) b + h b) (st .1) c′ z) laid
         where
           by : (b : Bool) → (Counted (blockAt (q .0)) (q .1) (λ b. occ b (kids (suc l) r) + (one (e .1 .0) b + h b)) → Laid (q .0 .width) (down s (kidMoves gs s a l (moves gs s a l)) r)
               → Stands gs (suc l) (λ b. one (e .1 .0) b + h b) q (run (down s (kidMoves gs s a l (moves gs s a l)) r) q) (at s (kidN gs s a l (putN gs s a l)) r))
-            → Laid (q .0 .width) (cond b (kidMoves gs s a l (moves gs s a l) (e .0) (e .1)) (down s (kidMoves gs s a l (moves gs s a l)) r))
-            → Stands gs (suc l) h q (run (cond b (kidMoves gs s a l (moves gs s a l) (e .0) (e .1)) (down s (kidMoves gs s a l (moves gs s a l)) r)) q) (cond b (kidN gs s a l (putN gs s a l) (e .0) (e .1) ++ r) (e ∷ at s (kidN gs s a l (putN gs s a l)) r))
+              → Laid (q .0 .width) (cond b (kidMoves gs s a l (moves gs s a l) (e .0) (e .1)) (down s (kidMoves gs s a l (moves gs s a l)) r))
+              → Stands gs (suc l) h q (run (cond b (kidMoves gs s a l (moves gs s a l) (e .0) (e .1)) (down s (kidMoves gs s a l (moves gs s a l)) r)) q) (cond b (kidN gs s a l (putN gs s a l) (e .0) (e .1) ++ r) (e ∷ at s (kidN gs s a l (putN gs s a l)) r))
           by true more laid =
               let h₁ : ℕ → ℕ = λ b. occ b (kids (suc l) r) + h b in
               let us = kidN gs s a l (putN gs s a l) (e .0) (e .1) in
@@ -271,7 +277,7 @@ module _ (gs : List ℕ) (s a N : ℕ) where
               let S = kid-keeps l ih (e .0) (e .1) q h₁ (st .0) (recount (λ b. occ b (kids (suc l) (e ∷ r)) + h b) (λ b. one (e .1 .0) b + h₁ b) (λ b. omega arith) c) f le laid in
               record {
                 stored = every-append (Stored (blockAt (q′ .0)) (suc l)) us r (S .stored)
-                  (frame (q .0) (blockAt (q′ .0)) (q .1) (λ b. occ b (kids (suc l) (e ∷ r)) + h b) c (same-live gs (2 * suc l) N q q′ f le (S .kept)) (suc l) r (λ b p. omega (arith, c .eqn b)) (st .1));
+                    (frame (q .0) (blockAt (q′ .0)) (q .1) (λ b. occ b (kids (suc l) (e ∷ r)) + h b) c (same-live gs (2 * suc l) N q q′ f le (S .kept)) (suc l) r (λ b p. omega (arith, c .eqn b)) (st .1));
                 counted = recount (λ b. occ b (kids (suc l) us) + h₁ b) (λ b. occ b (kids (suc l) (us ++ r)) + h b) (λ b. omega (arith, kids-append b (suc l) us r)) (S .counted);
                 kept = S .kept;
               }

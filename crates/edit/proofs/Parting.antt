@@ -22,15 +22,16 @@ module _ (l s k x y x′ : ℕ) (es made : List (ℕ × ℕ)) (q q′ : State) (
   by-one h e z =
       let t : (k, made) ∷ [] ≡ parted s k es made = rw (ne-eqb (length es) 15 (λ e. omega arith)) in
       subst (λ (ps : List (ℕ × List (ℕ × ℕ))). By l x y q q′ ((k, x′) ∷ []) ps) t
-        (record { kids = ap (λ (b : ℕ). (k, b) ∷ []) left; state = e ∙ ap (λ (b : ℕ). step (linking b (page l made)) q) left; laid = (z, tt) })
+      (record { kids = ap (λ (b : ℕ). (k, b) ∷ []) left; state = e ∙ ap (λ (b : ℕ). step (linking b (page l made)) q) left; laid = (z, tt) })
 
   module _ (y′ sep : ℕ) (right : y′ ≡ y) (full : length es ≡ 15) (sep-is : sep ≡ first (drop 7 es)) where
     both : (xs ys : List (ℕ × ℕ)) → q′ ≡ run (linking x′ (page l xs) ∷ linking y′ (page l ys) ∷ []) q → Layout (q .0 .width) (page l xs) → Layout (q .0 .width) (page l ys)
-      → By l x y q q′ ((k, x′) ∷ (sep, y′) ∷ []) ((k, xs) ∷ (first (drop 7 es), ys) ∷ [])
+        → By l x y q q′ ((k, x′) ∷ (sep, y′) ∷ []) ((k, xs) ∷ (first (drop 7 es), ys) ∷ [])
     both xs ys e zx zy = record {
       kids = ap₂ (λ (a b : ℕ). (k, a) ∷ (sep, b) ∷ []) left right ∙ ap (λ (c : ℕ). (k, x) ∷ (c, y) ∷ []) sep-is;
       state = e ∙ ap₂ (λ (a b : ℕ). run (linking a (page l xs) ∷ linking b (page l ys) ∷ []) q) left right;
-      laid = (zx, (zy, tt)) }
+      laid = (zx, (zy, tt));
+    }
 
     pub by-low : s < sep → q′ ≡ run (linking x′ (page l made) ∷ linking y′ (page l (drop 7 es)) ∷ []) q → Layout (q .0 .width) (page l made) → Layout (q .0 .width) (page l (drop 7 es)) → By l x y q q′ ((k, x′) ∷ (sep, y′) ∷ []) (parted s k es made)
     by-low h e zx zy =

@@ -44,11 +44,11 @@ module _ (fresh : ℕ → Bool) (gs : List ℕ) (s a : ℕ) where
     kid-is m =
         ⊎-elim
         (λ n. ⊎-elim
-          (λ v. rw (map-length (F l) es, eq-eqb (length es) 15 n, ← map-drop (F l) 7 es, ← map-take (F l) 7 es, map-first (F l) (drop 7 es), lt-ltb s (first (drop 7 es)) v)
-            (λ p. pair _ _ _ _ (marked l k x fx us _ p) (marked l _ y fy (drop 7 es) _ (map-old ℕ fresh l (drop 7 es) (every-drop (Old ℕ fresh l) 7 es old)))))
-          (λ v. rw (map-length (F l) es, eq-eqb (length es) 15 n, ← map-drop (F l) 7 es, ← map-take (F l) 7 es, map-first (F l) (drop 7 es), le-ltb s (first (drop 7 es)) v)
-            (λ p. pair _ _ _ _ (marked l k x fx (take 7 es) _ (map-old ℕ fresh l (take 7 es) (every-take (Old ℕ fresh l) 7 es old))) (marked l _ y fy us _ p)))
-          (cases-lt s (first (drop 7 es))))
+        (λ v. rw (map-length (F l) es, eq-eqb (length es) 15 n, ← map-drop (F l) 7 es, ← map-take (F l) 7 es, map-first (F l) (drop 7 es), lt-ltb s (first (drop 7 es)) v)
+        (λ p. pair _ _ _ _ (marked l k x fx us _ p) (marked l _ y fy (drop 7 es) _ (map-old ℕ fresh l (drop 7 es) (every-drop (Old ℕ fresh l) 7 es old)))))
+        (λ v. rw (map-length (F l) es, eq-eqb (length es) 15 n, ← map-drop (F l) 7 es, ← map-take (F l) 7 es, map-first (F l) (drop 7 es), le-ltb s (first (drop 7 es)) v)
+        (λ p. pair _ _ _ _ (marked l k x fx (take 7 es) _ (map-old ℕ fresh l (take 7 es) (every-take (Old ℕ fresh l) 7 es old))) (marked l _ y fy us _ p)))
+        (cases-lt s (first (drop 7 es))))
         (λ n. rw (map-length (F l) es, ne-eqb (length es) 15 n) (λ p. ap (λ (z : ℕ × Tree O ℕ l). z ∷ []) (marked l k x fx us _ p)))
         (cases-eq (length es) 15)
 
@@ -66,18 +66,19 @@ module _ (fresh : ℕ → Bool) (gs : List ℕ) (s a : ℕ) where
     where
       K : ℕ → Tree ℕ ℕ l → List (ℕ × Tree ℕ ℕ l)
       K = kidN gs s a l (putN gs s a l)
+
       go : ((es : List (ℕ × Pay ℕ ℕ l)) → ((j : ℕ) → j < 2 * l → fresh (getD gs j 0) ≡ true) → Every (Old ℕ fresh l) es → mapE (G l) (putN gs s a l es) ≡ putE O ℕ None s a l (mapE (F l) es))
-        → (es : List (ℕ × Tree ℕ ℕ l)) → Every (Old ℕ fresh (suc l)) es → mapE (G (suc l)) (at s (kidN gs s a l (putN gs s a l)) es) ≡ at s (kid None s (putE O ℕ None s a l)) (mapE (F (suc l)) es)
+          → (es : List (ℕ × Tree ℕ ℕ l)) → Every (Old ℕ fresh (suc l)) es → mapE (G (suc l)) (at s (kidN gs s a l (putN gs s a l)) es) ≡ at s (kid None s (putE O ℕ None s a l)) (mapE (F (suc l)) es)
       go ih [] old = refl
       go ih (e ∷ r) old =
           let t = e .1 in
           let ki = kid-is l (e .0) (getD gs (2 * l) 0) (getD gs (2 * l + 1) 0) (f (2 * l) (omega arith)) (f (2 * l + 1) (omega arith)) (t .1) (putN gs s a l (chosen s (t .1))) (old .0 .1) (t .0)
-                (ih (chosen s (t .1)) (λ j h. f j (omega arith)) (every-chosen l (t .1) (old .0 .1))) in
+          (ih (chosen s (t .1)) (λ j h. f j (omega arith)) (every-chosen l (t .1) (old .0 .1))) in
           rw (map-ahead (F (suc l)) s r) (by (ahead s r) ki (go ih r (old .1)))
         where
           by : (b : Bool) → mapE (G (suc l)) (kidN gs s a l (putN gs s a l) (e .0) (e .1)) ≡ kid None s (putE O ℕ None s a l) (e .0) (F (suc l) (e .1))
-            → mapE (G (suc l)) (at s (kidN gs s a l (putN gs s a l)) r) ≡ at s (kid None s (putE O ℕ None s a l)) (mapE (F (suc l)) r)
-            → mapE (G (suc l)) (cond b (kidN gs s a l (putN gs s a l) (e .0) (e .1) ++ r) (e ∷ at s (kidN gs s a l (putN gs s a l)) r)) ≡ cond b (kid None s (putE O ℕ None s a l) (e .0) (F (suc l) (e .1)) ++ mapE (F (suc l)) r) ((e .0, F (suc l) (e .1)) ∷ at s (kid None s (putE O ℕ None s a l)) (mapE (F (suc l)) r))
+              → mapE (G (suc l)) (at s (kidN gs s a l (putN gs s a l)) r) ≡ at s (kid None s (putE O ℕ None s a l)) (mapE (F (suc l)) r)
+              → mapE (G (suc l)) (cond b (kidN gs s a l (putN gs s a l) (e .0) (e .1) ++ r) (e ∷ at s (kidN gs s a l (putN gs s a l)) r)) ≡ cond b (kid None s (putE O ℕ None s a l) (e .0) (F (suc l) (e .1)) ++ mapE (F (suc l)) r) ((e .0, F (suc l) (e .1)) ∷ at s (kid None s (putE O ℕ None s a l)) (mapE (F (suc l)) r))
           by true ki more = map-append (G (suc l)) (kidN gs s a l (putN gs s a l) (e .0) (e .1)) r ∙ ap₂ (λ (u v : List (ℕ × Tree O ℕ l)). u ++ v) ki (map-old ℕ fresh (suc l) r (old .1))
           by false ki more = ap₂ (λ (u : Tree O ℕ l) (v : List (ℕ × Tree O ℕ l)). (e .0, u) ∷ v) (over-old ℕ fresh (suc l) (e .1) (old .0)) more
 
@@ -93,7 +94,7 @@ module _ (M P : Type 0) (new : M) (s : ℕ) (a : P) where
       (cases-eq (length es) 15)
     where
       go : (l : ℕ) (es : List (ℕ × Pay M P l)) (b : Bool) → only M P l new (cond b ((0, (new, putE M P new s a l (take 7 es))) ∷ (first (drop 7 es), (new, drop 7 es)) ∷ []) ((0, (new, take 7 es)) ∷ (first (drop 7 es), (new, putE M P new s a l (drop 7 es))) ∷ []) ++ [])
-        ≡ (suc l, (new, cond b ((0, (new, putE M P new s a l (take 7 es))) ∷ (first (drop 7 es), (new, drop 7 es)) ∷ []) ((0, (new, take 7 es)) ∷ (first (drop 7 es), (new, putE M P new s a l (drop 7 es))) ∷ [])))
+          ≡ (suc l, (new, cond b ((0, (new, putE M P new s a l (take 7 es))) ∷ (first (drop 7 es), (new, drop 7 es)) ∷ []) ((0, (new, take 7 es)) ∷ (first (drop 7 es), (new, putE M P new s a l (drop 7 es))) ∷ [])))
       go l es true = refl
       go l es false = refl
 
@@ -103,7 +104,7 @@ root-is fresh gs s a r f old =
     let x = getD gs (2 * suc l) 0 in
     on-only (forget fresh) same 0 s l x (putN gs s a (suc l) ((0, r .1) ∷ []))
     ∙ ap₂ (λ (m : O) (z : List (ℕ × Tree O ℕ l)). only O ℕ l m z) (cond-true (fresh x) None (Some x) (f (2 * suc l) (omega arith)))
-        (put-is fresh gs s a (suc l) ((0, r .1) ∷ []) (λ j h. f j (omega arith)) (old, tt))
+    (put-is fresh gs s a (suc l) ((0, r .1) ∷ []) (λ j h. f j (omega arith)) (old, tt))
     ∙ crowned O ℕ None s a l (old-of ℕ fresh (suc l) (r .1))
 
 -- so the tree is well formed, and low

@@ -37,92 +37,92 @@ module _ (gs : List ℕ) (s N l : ℕ) (g : List (ℕ × Pay ℕ ℕ l) → List
 
   -- the work goes on in one part, and nothing is left
   one-part : (mid : List (ℕ × Tree ℕ ℕ l)) (work : List (ℕ × Pay ℕ ℕ l)) (k : ℕ) (h : ℕ → ℕ) → S1 mid → Counted (blockAt (q .0)) (q .1) (λ b. occ b (kids (suc l) mid) + h b) → Every (Stored (blockAt (q .0)) l) work → ((b : ℕ) → below l mid b ≡ occ b (kids l work))
-    → Laid (q .0 .width) (editMoves gs s l g ms mid work ((k, g work) ∷ [])) → Stands gs (suc l) h q (run (editMoves gs s l g ms mid work ((k, g work) ∷ [])) q) (put2 gs s l g ((k, g work) ∷ []))
+      → Laid (q .0 .width) (editMoves gs s l g ms mid work ((k, g work) ∷ [])) → Stands gs (suc l) h q (run (editMoves gs s l g ms mid work ((k, g work) ∷ [])) q) (put2 gs s l g ((k, g work) ∷ []))
   one-part mid work k h st c sw split laid =
       replaced gs N l mid work [] (g work) ((k, g work) ∷ []) (ms work) h q le st c f sw tt (λ b. omega (arith, split b, kids-nil b l))
-        (λ q₁ h₁ a b e z. ih work q₁ h₁ a b e z)
-        (λ q₂ fx wx ox fy wy oy ne su sr c₂ z. good-one l h (getD gs (2 * l) 0) (getD gs (2 * l + 1) 0) q₂ fx wx ox fy wy oy ne k (g work) su
-          (recount (λ b. occ b (kids l (g work)) + (occ b (kids l []) + h b)) (λ b. occ b (kids l (g work)) + (0 + h b)) (λ b. omega (arith, kids-nil b l)) c₂) (z .0))
-        laid
+      (λ q₁ h₁ a b e z. ih work q₁ h₁ a b e z)
+      (λ q₂ fx wx ox fy wy oy ne su sr c₂ z. good-one l h (getD gs (2 * l) 0) (getD gs (2 * l + 1) 0) q₂ fx wx ox fy wy oy ne k (g work) su
+      (recount (λ b. occ b (kids l (g work)) + (occ b (kids l []) + h b)) (λ b. occ b (kids l (g work)) + (0 + h b)) (λ b. omega (arith, kids-nil b l)) c₂) (z .0))
+      laid
 
   -- the rest stands right of the work, or left of it
   part-rest : (mid : List (ℕ × Tree ℕ ℕ l)) (work rest : List (ℕ × Pay ℕ ℕ l)) (k j : ℕ) (h : ℕ → ℕ) → S1 mid → Counted (blockAt (q .0)) (q .1) (λ b. occ b (kids (suc l) mid) + h b) → Every (Stored (blockAt (q .0)) l) work → Every (Stored (blockAt (q .0)) l) rest → ((b : ℕ) → below l mid b ≡ occ b (kids l work) + occ b (kids l rest))
-    → Laid (q .0 .width) (editMoves gs s l g ms mid work ((k, g work) ∷ (j, rest) ∷ [])) → Stands gs (suc l) h q (run (editMoves gs s l g ms mid work ((k, g work) ∷ (j, rest) ∷ [])) q) (put2 gs s l g ((k, g work) ∷ (j, rest) ∷ []))
+      → Laid (q .0 .width) (editMoves gs s l g ms mid work ((k, g work) ∷ (j, rest) ∷ [])) → Stands gs (suc l) h q (run (editMoves gs s l g ms mid work ((k, g work) ∷ (j, rest) ∷ [])) q) (put2 gs s l g ((k, g work) ∷ (j, rest) ∷ []))
   part-rest mid work rest k j h st c sw sr split laid =
       replaced gs N l mid work rest (g work) ((k, g work) ∷ (j, rest) ∷ []) (ms work) h q le st c f sw sr split
-        (λ q₁ h₁ a b e z. ih work q₁ h₁ a b e z)
-        (λ q₂ fx wx ox fy wy oy ne su sr c₂ z. good-two l h (getD gs (2 * l) 0) (getD gs (2 * l + 1) 0) q₂ fx wx ox fy wy oy ne k j (g work) rest su sr c₂ (z .0) (z .1 .0))
-        laid
+      (λ q₁ h₁ a b e z. ih work q₁ h₁ a b e z)
+      (λ q₂ fx wx ox fy wy oy ne su sr c₂ z. good-two l h (getD gs (2 * l) 0) (getD gs (2 * l + 1) 0) q₂ fx wx ox fy wy oy ne k j (g work) rest su sr c₂ (z .0) (z .1 .0))
+      laid
 
   rest-part : (mid : List (ℕ × Tree ℕ ℕ l)) (work rest : List (ℕ × Pay ℕ ℕ l)) (k j : ℕ) (h : ℕ → ℕ) → S1 mid → Counted (blockAt (q .0)) (q .1) (λ b. occ b (kids (suc l) mid) + h b) → Every (Stored (blockAt (q .0)) l) work → Every (Stored (blockAt (q .0)) l) rest → ((b : ℕ) → below l mid b ≡ occ b (kids l work) + occ b (kids l rest))
-    → Laid (q .0 .width) (editMoves gs s l g ms mid work ((k, rest) ∷ (j, g work) ∷ [])) → Stands gs (suc l) h q (run (editMoves gs s l g ms mid work ((k, rest) ∷ (j, g work) ∷ [])) q) (put2 gs s l g ((k, rest) ∷ (j, g work) ∷ []))
+      → Laid (q .0 .width) (editMoves gs s l g ms mid work ((k, rest) ∷ (j, g work) ∷ [])) → Stands gs (suc l) h q (run (editMoves gs s l g ms mid work ((k, rest) ∷ (j, g work) ∷ [])) q) (put2 gs s l g ((k, rest) ∷ (j, g work) ∷ []))
   rest-part mid work rest k j h st c sw sr split laid =
       replaced gs N l mid work rest (g work) ((k, rest) ∷ (j, g work) ∷ []) (ms work) h q le st c f sw sr split
-        (λ q₁ h₁ a b e z. ih work q₁ h₁ a b e z)
-        (λ q₂ fx wx ox fy wy oy ne su sr c₂ z. good-two l h (getD gs (2 * l) 0) (getD gs (2 * l + 1) 0) q₂ fx wx ox fy wy oy ne k j rest (g work) sr su
-          (recount (λ b. occ b (kids l (g work)) + (occ b (kids l rest) + h b)) (λ b. occ b (kids l rest) + (occ b (kids l (g work)) + h b)) (λ b. omega arith) c₂) (z .0) (z .1 .0))
-        laid
+      (λ q₁ h₁ a b e z. ih work q₁ h₁ a b e z)
+      (λ q₂ fx wx ox fy wy oy ne su sr c₂ z. good-two l h (getD gs (2 * l) 0) (getD gs (2 * l + 1) 0) q₂ fx wx ox fy wy oy ne k j rest (g work) sr su
+      (recount (λ b. occ b (kids l (g work)) + (occ b (kids l rest) + h b)) (λ b. occ b (kids l rest) + (occ b (kids l (g work)) + h b)) (λ b. omega arith) c₂) (z .0) (z .1 .0))
+      laid
 
   -- a child with its right neighbour
   pub right : (e d : ℕ × Tree ℕ ℕ l) (h : ℕ → ℕ) → S1 (e ∷ d ∷ []) → Counted (blockAt (q .0)) (q .1) (λ b. occ b (kids (suc l) (e ∷ d ∷ [])) + h b) → Laid (q .0 .width) (rightM gs s l g ms e d)
-    → Stands gs (suc l) h q (run (rightM gs s l g ms e d) q) (rightN gs s l g e d)
+      → Stands gs (suc l) h q (run (rightM gs s l g ms e d) q) (rightN gs s l g e d)
   right e d h st c = go (eqb (length (e .1 .1)) 7) (eqb (length (d .1 .1)) 7)
     where
       go : (t u : Bool)
-        → Laid (q .0 .width) (editMoves gs s l g ms (cond t (e ∷ d ∷ []) (e ∷ [])) (cond t (cond u (e .1 .1 ++ d .1 .1) (e .1 .1 ++ take 1 (d .1 .1))) (e .1 .1))
-            (cond t (cond u ((e .0, g (cond t (cond u (e .1 .1 ++ d .1 .1) (e .1 .1 ++ take 1 (d .1 .1))) (e .1 .1))) ∷ []) ((e .0, g (cond t (cond u (e .1 .1 ++ d .1 .1) (e .1 .1 ++ take 1 (d .1 .1))) (e .1 .1))) ∷ (first (drop 1 (d .1 .1)), drop 1 (d .1 .1)) ∷ [])) ((e .0, g (cond t (cond u (e .1 .1 ++ d .1 .1) (e .1 .1 ++ take 1 (d .1 .1))) (e .1 .1))) ∷ [])))
-        → Stands gs (suc l) h q
-            (run (editMoves gs s l g ms (cond t (e ∷ d ∷ []) (e ∷ [])) (cond t (cond u (e .1 .1 ++ d .1 .1) (e .1 .1 ++ take 1 (d .1 .1))) (e .1 .1))
-              (cond t (cond u ((e .0, g (cond t (cond u (e .1 .1 ++ d .1 .1) (e .1 .1 ++ take 1 (d .1 .1))) (e .1 .1))) ∷ []) ((e .0, g (cond t (cond u (e .1 .1 ++ d .1 .1) (e .1 .1 ++ take 1 (d .1 .1))) (e .1 .1))) ∷ (first (drop 1 (d .1 .1)), drop 1 (d .1 .1)) ∷ [])) ((e .0, g (cond t (cond u (e .1 .1 ++ d .1 .1) (e .1 .1 ++ take 1 (d .1 .1))) (e .1 .1))) ∷ []))) q)
-            (put2 gs s l g (cond t (cond u ((e .0, g (cond t (cond u (e .1 .1 ++ d .1 .1) (e .1 .1 ++ take 1 (d .1 .1))) (e .1 .1))) ∷ []) ((e .0, g (cond t (cond u (e .1 .1 ++ d .1 .1) (e .1 .1 ++ take 1 (d .1 .1))) (e .1 .1))) ∷ (first (drop 1 (d .1 .1)), drop 1 (d .1 .1)) ∷ [])) ((e .0, g (cond t (cond u (e .1 .1 ++ d .1 .1) (e .1 .1 ++ take 1 (d .1 .1))) (e .1 .1))) ∷ [])) ++ cond t [] (d ∷ []))
+          → Laid (q .0 .width) (editMoves gs s l g ms (cond t (e ∷ d ∷ []) (e ∷ [])) (cond t (cond u (e .1 .1 ++ d .1 .1) (e .1 .1 ++ take 1 (d .1 .1))) (e .1 .1))
+          (cond t (cond u ((e .0, g (cond t (cond u (e .1 .1 ++ d .1 .1) (e .1 .1 ++ take 1 (d .1 .1))) (e .1 .1))) ∷ []) ((e .0, g (cond t (cond u (e .1 .1 ++ d .1 .1) (e .1 .1 ++ take 1 (d .1 .1))) (e .1 .1))) ∷ (first (drop 1 (d .1 .1)), drop 1 (d .1 .1)) ∷ [])) ((e .0, g (cond t (cond u (e .1 .1 ++ d .1 .1) (e .1 .1 ++ take 1 (d .1 .1))) (e .1 .1))) ∷ [])))
+          → Stands gs (suc l) h q
+          (run (editMoves gs s l g ms (cond t (e ∷ d ∷ []) (e ∷ [])) (cond t (cond u (e .1 .1 ++ d .1 .1) (e .1 .1 ++ take 1 (d .1 .1))) (e .1 .1))
+          (cond t (cond u ((e .0, g (cond t (cond u (e .1 .1 ++ d .1 .1) (e .1 .1 ++ take 1 (d .1 .1))) (e .1 .1))) ∷ []) ((e .0, g (cond t (cond u (e .1 .1 ++ d .1 .1) (e .1 .1 ++ take 1 (d .1 .1))) (e .1 .1))) ∷ (first (drop 1 (d .1 .1)), drop 1 (d .1 .1)) ∷ [])) ((e .0, g (cond t (cond u (e .1 .1 ++ d .1 .1) (e .1 .1 ++ take 1 (d .1 .1))) (e .1 .1))) ∷ []))) q)
+          (put2 gs s l g (cond t (cond u ((e .0, g (cond t (cond u (e .1 .1 ++ d .1 .1) (e .1 .1 ++ take 1 (d .1 .1))) (e .1 .1))) ∷ []) ((e .0, g (cond t (cond u (e .1 .1 ++ d .1 .1) (e .1 .1 ++ take 1 (d .1 .1))) (e .1 .1))) ∷ (first (drop 1 (d .1 .1)), drop 1 (d .1 .1)) ∷ [])) ((e .0, g (cond t (cond u (e .1 .1 ++ d .1 .1) (e .1 .1 ++ take 1 (d .1 .1))) (e .1 .1))) ∷ [])) ++ cond t [] (d ∷ []))
       go true true laid = one-part (e ∷ d ∷ []) (e .1 .1 ++ d .1 .1) (e .0) h st c (every-append (Stored (blockAt (q .0)) l) (e .1 .1) (d .1 .1) (st .0 .1) (st .1 .0 .1)) (λ b. omega (arith, kids-append b l (e .1 .1) (d .1 .1))) laid
       go true false laid =
           part-rest (e ∷ d ∷ []) (e .1 .1 ++ take 1 (d .1 .1)) (drop 1 (d .1 .1)) (e .0) (first (drop 1 (d .1 .1))) h st c (every-append (Stored (blockAt (q .0)) l) (e .1 .1) (take 1 (d .1 .1)) (st .0 .1) (every-take (Stored (blockAt (q .0)) l) 1 (d .1 .1) (st .1 .0 .1)))
-            (every-drop (Stored (blockAt (q .0)) l) 1 (d .1 .1) (st .1 .0 .1)) (λ b. omega (arith, kids-append b l (e .1 .1) (take 1 (d .1 .1)), halves b l 1 (d .1 .1))) laid
+          (every-drop (Stored (blockAt (q .0)) l) 1 (d .1 .1) (st .1 .0 .1)) (λ b. omega (arith, kids-append b l (e .1 .1) (take 1 (d .1 .1)), halves b l 1 (d .1 .1))) laid
       go false u laid =
           among gs N l [] (e ∷ []) (d ∷ []) (put2 gs s l g ((e .0, g (e .1 .1)) ∷ [])) h q _ tt (st .1) (recount (λ b. occ b (kids (suc l) (e ∷ d ∷ [])) + h b) (λ b. occ b (kids (suc l) ([] ++ ((e ∷ []) ++ d ∷ []))) + h b) (λ b. refl) c) f le
-            (one-part (e ∷ []) (e .1 .1) (e .0) (λ b. (occ b (kids (suc l) []) + occ b (kids (suc l) (d ∷ []))) + h b) (st .0, tt) (recount (λ b. occ b (kids (suc l) (e ∷ d ∷ [])) + h b) (λ b. occ b (kids (suc l) (e ∷ [])) + ((occ b (kids (suc l) []) + occ b (kids (suc l) (d ∷ []))) + h b)) (λ b. omega arith) c) (st .0 .1) (λ b. omega arith) laid)
+          (one-part (e ∷ []) (e .1 .1) (e .0) (λ b. (occ b (kids (suc l) []) + occ b (kids (suc l) (d ∷ []))) + h b) (st .0, tt) (recount (λ b. occ b (kids (suc l) (e ∷ d ∷ [])) + h b) (λ b. occ b (kids (suc l) (e ∷ [])) + ((occ b (kids (suc l) []) + occ b (kids (suc l) (d ∷ []))) + h b)) (λ b. omega arith) c) (st .0 .1) (λ b. omega arith) laid)
 
   -- the last child with its left neighbour
   left : (e d : ℕ × Tree ℕ ℕ l) (h : ℕ → ℕ) → S1 (e ∷ d ∷ []) → Counted (blockAt (q .0)) (q .1) (λ b. occ b (kids (suc l) (e ∷ d ∷ [])) + h b) → Laid (q .0 .width) (leftM gs s l g ms e d)
-    → Stands gs (suc l) h q (run (leftM gs s l g ms e d) q) (leftN gs s l g e d)
+      → Stands gs (suc l) h q (run (leftM gs s l g ms e d) q) (leftN gs s l g e d)
   left e d h st c = go (eqb (length (d .1 .1)) 7) (eqb (length (e .1 .1)) 7)
     where
       go : (t u : Bool)
-        → Laid (q .0 .width) (editMoves gs s l g ms (cond t (e ∷ d ∷ []) (d ∷ [])) (cond t (cond u (e .1 .1 ++ d .1 .1) (drop (length (e .1 .1) - 1) (e .1 .1) ++ d .1 .1)) (d .1 .1))
-            (cond t (cond u ((e .0, g (cond t (cond u (e .1 .1 ++ d .1 .1) (drop (length (e .1 .1) - 1) (e .1 .1) ++ d .1 .1)) (d .1 .1))) ∷ []) ((e .0, take (length (e .1 .1) - 1) (e .1 .1)) ∷ (first (drop (length (e .1 .1) - 1) (e .1 .1)), g (cond t (cond u (e .1 .1 ++ d .1 .1) (drop (length (e .1 .1) - 1) (e .1 .1) ++ d .1 .1)) (d .1 .1))) ∷ [])) ((d .0, g (cond t (cond u (e .1 .1 ++ d .1 .1) (drop (length (e .1 .1) - 1) (e .1 .1) ++ d .1 .1)) (d .1 .1))) ∷ [])))
-        → Stands gs (suc l) h q
-            (run (editMoves gs s l g ms (cond t (e ∷ d ∷ []) (d ∷ [])) (cond t (cond u (e .1 .1 ++ d .1 .1) (drop (length (e .1 .1) - 1) (e .1 .1) ++ d .1 .1)) (d .1 .1))
-              (cond t (cond u ((e .0, g (cond t (cond u (e .1 .1 ++ d .1 .1) (drop (length (e .1 .1) - 1) (e .1 .1) ++ d .1 .1)) (d .1 .1))) ∷ []) ((e .0, take (length (e .1 .1) - 1) (e .1 .1)) ∷ (first (drop (length (e .1 .1) - 1) (e .1 .1)), g (cond t (cond u (e .1 .1 ++ d .1 .1) (drop (length (e .1 .1) - 1) (e .1 .1) ++ d .1 .1)) (d .1 .1))) ∷ [])) ((d .0, g (cond t (cond u (e .1 .1 ++ d .1 .1) (drop (length (e .1 .1) - 1) (e .1 .1) ++ d .1 .1)) (d .1 .1))) ∷ []))) q)
-            (cond t [] (e ∷ []) ++ put2 gs s l g (cond t (cond u ((e .0, g (cond t (cond u (e .1 .1 ++ d .1 .1) (drop (length (e .1 .1) - 1) (e .1 .1) ++ d .1 .1)) (d .1 .1))) ∷ []) ((e .0, take (length (e .1 .1) - 1) (e .1 .1)) ∷ (first (drop (length (e .1 .1) - 1) (e .1 .1)), g (cond t (cond u (e .1 .1 ++ d .1 .1) (drop (length (e .1 .1) - 1) (e .1 .1) ++ d .1 .1)) (d .1 .1))) ∷ [])) ((d .0, g (cond t (cond u (e .1 .1 ++ d .1 .1) (drop (length (e .1 .1) - 1) (e .1 .1) ++ d .1 .1)) (d .1 .1))) ∷ [])))
+          → Laid (q .0 .width) (editMoves gs s l g ms (cond t (e ∷ d ∷ []) (d ∷ [])) (cond t (cond u (e .1 .1 ++ d .1 .1) (drop (length (e .1 .1) - 1) (e .1 .1) ++ d .1 .1)) (d .1 .1))
+          (cond t (cond u ((e .0, g (cond t (cond u (e .1 .1 ++ d .1 .1) (drop (length (e .1 .1) - 1) (e .1 .1) ++ d .1 .1)) (d .1 .1))) ∷ []) ((e .0, take (length (e .1 .1) - 1) (e .1 .1)) ∷ (first (drop (length (e .1 .1) - 1) (e .1 .1)), g (cond t (cond u (e .1 .1 ++ d .1 .1) (drop (length (e .1 .1) - 1) (e .1 .1) ++ d .1 .1)) (d .1 .1))) ∷ [])) ((d .0, g (cond t (cond u (e .1 .1 ++ d .1 .1) (drop (length (e .1 .1) - 1) (e .1 .1) ++ d .1 .1)) (d .1 .1))) ∷ [])))
+          → Stands gs (suc l) h q
+          (run (editMoves gs s l g ms (cond t (e ∷ d ∷ []) (d ∷ [])) (cond t (cond u (e .1 .1 ++ d .1 .1) (drop (length (e .1 .1) - 1) (e .1 .1) ++ d .1 .1)) (d .1 .1))
+          (cond t (cond u ((e .0, g (cond t (cond u (e .1 .1 ++ d .1 .1) (drop (length (e .1 .1) - 1) (e .1 .1) ++ d .1 .1)) (d .1 .1))) ∷ []) ((e .0, take (length (e .1 .1) - 1) (e .1 .1)) ∷ (first (drop (length (e .1 .1) - 1) (e .1 .1)), g (cond t (cond u (e .1 .1 ++ d .1 .1) (drop (length (e .1 .1) - 1) (e .1 .1) ++ d .1 .1)) (d .1 .1))) ∷ [])) ((d .0, g (cond t (cond u (e .1 .1 ++ d .1 .1) (drop (length (e .1 .1) - 1) (e .1 .1) ++ d .1 .1)) (d .1 .1))) ∷ []))) q)
+          (cond t [] (e ∷ []) ++ put2 gs s l g (cond t (cond u ((e .0, g (cond t (cond u (e .1 .1 ++ d .1 .1) (drop (length (e .1 .1) - 1) (e .1 .1) ++ d .1 .1)) (d .1 .1))) ∷ []) ((e .0, take (length (e .1 .1) - 1) (e .1 .1)) ∷ (first (drop (length (e .1 .1) - 1) (e .1 .1)), g (cond t (cond u (e .1 .1 ++ d .1 .1) (drop (length (e .1 .1) - 1) (e .1 .1) ++ d .1 .1)) (d .1 .1))) ∷ [])) ((d .0, g (cond t (cond u (e .1 .1 ++ d .1 .1) (drop (length (e .1 .1) - 1) (e .1 .1) ++ d .1 .1)) (d .1 .1))) ∷ [])))
       go true true laid = one-part (e ∷ d ∷ []) (e .1 .1 ++ d .1 .1) (e .0) h st c (every-append (Stored (blockAt (q .0)) l) (e .1 .1) (d .1 .1) (st .0 .1) (st .1 .0 .1)) (λ b. omega (arith, kids-append b l (e .1 .1) (d .1 .1))) laid
       go true false laid =
           let n = length (e .1 .1) - 1 in
           rest-part (e ∷ d ∷ []) (drop n (e .1 .1) ++ d .1 .1) (take n (e .1 .1)) (e .0) (first (drop n (e .1 .1))) h st c (every-append (Stored (blockAt (q .0)) l) (drop n (e .1 .1)) (d .1 .1) (every-drop (Stored (blockAt (q .0)) l) n (e .1 .1) (st .0 .1)) (st .1 .0 .1))
-            (every-take (Stored (blockAt (q .0)) l) n (e .1 .1) (st .0 .1)) (λ b. omega (arith, kids-append b l (drop n (e .1 .1)) (d .1 .1), halves b l n (e .1 .1))) laid
+          (every-take (Stored (blockAt (q .0)) l) n (e .1 .1) (st .0 .1)) (λ b. omega (arith, kids-append b l (drop n (e .1 .1)) (d .1 .1), halves b l n (e .1 .1))) laid
       go false u laid =
           among gs N l (e ∷ []) (d ∷ []) [] (put2 gs s l g ((d .0, g (d .1 .1)) ∷ [])) h q _ (st .0, tt) tt c f le
-            (one-part (d ∷ []) (d .1 .1) (d .0) (λ b. (occ b (kids (suc l) (e ∷ [])) + occ b (kids (suc l) [])) + h b) (st .1) (recount (λ b. occ b (kids (suc l) (e ∷ d ∷ [])) + h b) (λ b. occ b (kids (suc l) (d ∷ [])) + ((occ b (kids (suc l) (e ∷ [])) + occ b (kids (suc l) [])) + h b)) (λ b. omega arith) c) (st .1 .0 .1) (λ b. omega arith) laid)
+          (one-part (d ∷ []) (d .1 .1) (d .0) (λ b. (occ b (kids (suc l) (e ∷ [])) + occ b (kids (suc l) [])) + h b) (st .1) (recount (λ b. occ b (kids (suc l) (e ∷ d ∷ [])) + h b) (λ b. occ b (kids (suc l) (d ∷ [])) + ((occ b (kids (suc l) (e ∷ [])) + occ b (kids (suc l) [])) + h b)) (λ b. omega arith) c) (st .1 .0 .1) (λ b. omega arith) laid)
 
   -- some of the children, in a row
   pub shrinks : (e : ℕ × Tree ℕ ℕ l) (r : List (ℕ × Tree ℕ ℕ l)) (h : ℕ → ℕ) → S1 (e ∷ r) → Counted (blockAt (q .0)) (q .1) (λ b. occ b (kids (suc l) (e ∷ r)) + h b) → Laid (q .0 .width) (shrinkM gs s l g ms (e ∷ r))
-    → Stands gs (suc l) h q (run (shrinkM gs s l g ms (e ∷ r)) q) (shrinkN gs s l g (e ∷ r))
+      → Stands gs (suc l) h q (run (shrinkM gs s l g ms (e ∷ r)) q) (shrinkN gs s l g (e ∷ r))
   shrinks e [] h st c laid = one-part (e ∷ []) (e .1 .1) (e .0) h st c (st .0 .1) (λ b. omega arith) laid
   shrinks e (d ∷ []) h st c laid = by (ltb s (d .0)) laid
     where
       by : (b : Bool) → Laid (q .0 .width) (cond b (rightM gs s l g ms e d) (leftM gs s l g ms e d)) → Stands gs (suc l) h q (run (cond b (rightM gs s l g ms e d) (leftM gs s l g ms e d)) q) (cond b (rightN gs s l g e d ++ []) (leftN gs s l g e d))
       by true laid =
           among gs N l [] (e ∷ d ∷ []) [] (rightN gs s l g e d) h q _ tt tt c f le
-            (right e d (λ b. (occ b (kids (suc l) []) + occ b (kids (suc l) [])) + h b) st (recount (λ b. occ b (kids (suc l) (e ∷ d ∷ [])) + h b) (λ b. occ b (kids (suc l) (e ∷ d ∷ [])) + ((occ b (kids (suc l) []) + occ b (kids (suc l) [])) + h b)) (λ b. omega arith) c) laid)
+          (right e d (λ b. (occ b (kids (suc l) []) + occ b (kids (suc l) [])) + h b) st (recount (λ b. occ b (kids (suc l) (e ∷ d ∷ [])) + h b) (λ b. occ b (kids (suc l) (e ∷ d ∷ [])) + ((occ b (kids (suc l) []) + occ b (kids (suc l) [])) + h b)) (λ b. omega arith) c) laid)
       by false laid = left e d h st c laid
   shrinks e (d ∷ x ∷ r) h st c laid = by (ltb s (d .0)) (λ c′ z. shrinks d (x ∷ r) (λ b. one (e .1 .0) b + h b) (st .1) c′ z) laid
     where
       by : (b : Bool) → (Counted (blockAt (q .0)) (q .1) (λ b. occ b (kids (suc l) (d ∷ x ∷ r)) + (one (e .1 .0) b + h b)) → Laid (q .0 .width) (shrinkM gs s l g ms (d ∷ x ∷ r)) → Stands gs (suc l) (λ b. one (e .1 .0) b + h b) q (run (shrinkM gs s l g ms (d ∷ x ∷ r)) q) (shrinkN gs s l g (d ∷ x ∷ r)))
-        → Laid (q .0 .width) (cond b (rightM gs s l g ms e d) (shrinkM gs s l g ms (d ∷ x ∷ r)))
-        → Stands gs (suc l) h q (run (cond b (rightM gs s l g ms e d) (shrinkM gs s l g ms (d ∷ x ∷ r))) q) (cond b (rightN gs s l g e d ++ x ∷ r) (e ∷ shrinkN gs s l g (d ∷ x ∷ r)))
+          → Laid (q .0 .width) (cond b (rightM gs s l g ms e d) (shrinkM gs s l g ms (d ∷ x ∷ r)))
+          → Stands gs (suc l) h q (run (cond b (rightM gs s l g ms e d) (shrinkM gs s l g ms (d ∷ x ∷ r))) q) (cond b (rightN gs s l g e d ++ x ∷ r) (e ∷ shrinkN gs s l g (d ∷ x ∷ r)))
       by true more laid =
           among gs N l [] (e ∷ d ∷ []) (x ∷ r) (rightN gs s l g e d) h q _ tt (st .1 .1) c f le
-            (right e d (λ b. (occ b (kids (suc l) []) + occ b (kids (suc l) (x ∷ r))) + h b) (st .0, (st .1 .0, tt)) (recount (λ b. occ b (kids (suc l) (e ∷ d ∷ x ∷ r)) + h b) (λ b. occ b (kids (suc l) (e ∷ d ∷ [])) + ((occ b (kids (suc l) []) + occ b (kids (suc l) (x ∷ r))) + h b)) (λ b. omega arith) c) laid)
+          (right e d (λ b. (occ b (kids (suc l) []) + occ b (kids (suc l) (x ∷ r))) + h b) (st .0, (st .1 .0, tt)) (recount (λ b. occ b (kids (suc l) (e ∷ d ∷ x ∷ r)) + h b) (λ b. occ b (kids (suc l) (e ∷ d ∷ [])) + ((occ b (kids (suc l) []) + occ b (kids (suc l) (x ∷ r))) + h b)) (λ b. omega arith) c) laid)
       by false more laid =
           let h₁ : ℕ → ℕ = λ b. one (e .1 .0) b + h b in
           let us = shrinkN gs s l g (d ∷ x ∷ r) in

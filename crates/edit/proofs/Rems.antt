@@ -58,25 +58,25 @@ module _ (fresh : ℕ → Bool) (s : ℕ) where
     right-is v w =
         ⊎-elim
         (λ m. ⊎-elim
-          (λ o. rw (map-length (F l) xs, map-length (F l) ys, eq-eqb (length xs) 7 m, eq-eqb (length ys) 7 o, ← map-append (F l) xs ys) (λ p. one _ _ (marked l (e .0) x fx us _ p)))
-          (λ o. rw (map-length (F l) xs, map-length (F l) ys, eq-eqb (length xs) 7 m, ne-eqb (length ys) 7 o, ← map-drop (F l) 1 ys, ← map-take (F l) 1 ys, ← map-append (F l) xs (take 1 ys), map-first (F l) (drop 1 ys), lt-ltb s (first (drop 1 ys)) (w o))
-            (λ p. pair _ _ _ _ (marked l (e .0) x fx us _ p) (marked l _ y fy (drop 1 ys) _ (map-old ℕ fresh l (drop 1 ys) (every-drop (Old ℕ fresh l) 1 ys (od .1))))))
-          (cases-eq (length ys) 7))
+        (λ o. rw (map-length (F l) xs, map-length (F l) ys, eq-eqb (length xs) 7 m, eq-eqb (length ys) 7 o, ← map-append (F l) xs ys) (λ p. one _ _ (marked l (e .0) x fx us _ p)))
+        (λ o. rw (map-length (F l) xs, map-length (F l) ys, eq-eqb (length xs) 7 m, ne-eqb (length ys) 7 o, ← map-drop (F l) 1 ys, ← map-take (F l) 1 ys, ← map-append (F l) xs (take 1 ys), map-first (F l) (drop 1 ys), lt-ltb s (first (drop 1 ys)) (w o))
+        (λ p. pair _ _ _ _ (marked l (e .0) x fx us _ p) (marked l _ y fy (drop 1 ys) _ (map-old ℕ fresh l (drop 1 ys) (every-drop (Old ℕ fresh l) 1 ys (od .1))))))
+        (cases-eq (length ys) 7))
         (λ m. rw (map-length (F l) xs, ne-eqb (length xs) 7 m, lt-ltb s (d .0) v)
-          (λ p. pair _ _ _ _ (marked l (e .0) x fx us _ p) (ap (λ (z : Tree O ℕ l). (d .0, z)) (over-old ℕ fresh (suc l) (d .1) od))))
+        (λ p. pair _ _ _ _ (marked l (e .0) x fx us _ p) (ap (λ (z : Tree O ℕ l). (d .0, z)) (over-old ℕ fresh (suc l) (d .1) od))))
         (cases-eq (length xs) 7)
 
     left-is : d .0 ≤ s → ((length xs ≡ 7 → ⊥) → first (drop (length xs - 1) xs) ≤ s) → mapE (G l) us ≡ g (mapE (F l) (workL xs ys)) → mapE (G (suc l)) (cond (short ys) [] (e ∷ []) ++ placed x y (partsL (e .0) (d .0) xs ys us)) ≡ at s (touch None g) (readyLeft None (Up l e) (Up l d))
     left-is v w =
         ⊎-elim
         (λ m. ⊎-elim
-          (λ o. rw (map-length (F l) xs, map-length (F l) ys, eq-eqb (length ys) 7 m, eq-eqb (length xs) 7 o, ← map-append (F l) xs ys) (λ p. one _ _ (marked l (e .0) x fx us _ p)))
-          (λ o. let n = length xs - 1 in
-            rw (map-length (F l) xs, map-length (F l) ys, eq-eqb (length ys) 7 m, ne-eqb (length xs) 7 o, ← map-drop (F l) n xs, ← map-take (F l) n xs, ← map-append (F l) (drop n xs) ys, map-first (F l) (drop n xs), le-ltb s (first (drop n xs)) (w o))
-            (λ p. pair _ _ _ _ (marked l (e .0) x fx (take n xs) _ (map-old ℕ fresh l (take n xs) (every-take (Old ℕ fresh l) n xs (oe .1)))) (marked l _ y fy us _ p)))
-          (cases-eq (length xs) 7))
+        (λ o. rw (map-length (F l) xs, map-length (F l) ys, eq-eqb (length ys) 7 m, eq-eqb (length xs) 7 o, ← map-append (F l) xs ys) (λ p. one _ _ (marked l (e .0) x fx us _ p)))
+        (λ o. let n = length xs - 1 in
+        rw (map-length (F l) xs, map-length (F l) ys, eq-eqb (length ys) 7 m, ne-eqb (length xs) 7 o, ← map-drop (F l) n xs, ← map-take (F l) n xs, ← map-append (F l) (drop n xs) ys, map-first (F l) (drop n xs), le-ltb s (first (drop n xs)) (w o))
+        (λ p. pair _ _ _ _ (marked l (e .0) x fx (take n xs) _ (map-old ℕ fresh l (take n xs) (every-take (Old ℕ fresh l) n xs (oe .1)))) (marked l _ y fy us _ p)))
+        (cases-eq (length xs) 7))
         (λ m. rw (map-length (F l) ys, ne-eqb (length ys) 7 m, le-ltb s (d .0) v)
-          (λ p. pair _ _ _ _ (ap (λ (z : Tree O ℕ l). (e .0, z)) (over-old ℕ fresh (suc l) (e .1) oe)) (marked l (d .0) x fx us _ p)))
+        (λ p. pair _ _ _ _ (ap (λ (z : Tree O ℕ l). (e .0, z)) (over-old ℕ fresh (suc l) (e .1) oe)) (marked l (d .0) x fx us _ p)))
         (cases-eq (length ys) 7)
 
 -- where the work goes on
@@ -87,6 +87,7 @@ every-work {X} P xs ys p q = (go (eqb (length xs) 7) (eqb (length ys) 7), ho (eq
     go true true = every-append P xs ys p q
     go true false = every-append P xs (take 1 ys) p (every-take P 1 ys q)
     go false u = p
+
     ho : (t u : Bool) → Every P (cond {A = List (ℕ × X)} t (cond u (xs ++ ys) (drop (length xs - 1) xs ++ ys)) ys)
     ho true true = every-append P xs ys p q
     ho true false = every-append P (drop (length xs - 1) xs) ys (every-drop P (length xs - 1) xs p) q
@@ -128,8 +129,9 @@ removes fresh gs s (suc l) lo hi (e ∷ r) p f old = go (removes fresh gs s l) l
   where
     x : ℕ
     x = getD gs (2 * l) 0
+
     go : ((lo hi : ℕ) (es : List (ℕ × Pay ℕ ℕ l)) → Span ℕ ℕ l lo hi es → ((j : ℕ) → j < 2 * l → fresh (getD gs j 0) ≡ true) → Every (Old ℕ fresh l) es → mapE (new-of ℕ fresh l) (remN gs s l es) ≡ remE O ℕ None s l (mapE (old-of ℕ fresh l) es))
-      → (lo : ℕ) (e : ℕ × Tree ℕ ℕ l) (r : List (ℕ × Tree ℕ ℕ l)) → Span ℕ ℕ (suc l) lo hi (e ∷ r) → Every (Old ℕ fresh (suc l)) (e ∷ r) → mapE (new-of ℕ fresh (suc l)) (shrinkN gs s l (remN gs s l) (e ∷ r)) ≡ remE O ℕ None s (suc l) (mapE (old-of ℕ fresh (suc l)) (e ∷ r))
+        → (lo : ℕ) (e : ℕ × Tree ℕ ℕ l) (r : List (ℕ × Tree ℕ ℕ l)) → Span ℕ ℕ (suc l) lo hi (e ∷ r) → Every (Old ℕ fresh (suc l)) (e ∷ r) → mapE (new-of ℕ fresh (suc l)) (shrinkN gs s l (remN gs s l) (e ∷ r)) ≡ remE O ℕ None s (suc l) (mapE (old-of ℕ fresh (suc l)) (e ∷ r))
     go ih lo e [] p old = one _ _ (marked fresh s l (e .0) (getD gs (2 * l) 0) (f (2 * l) (omega arith)) (remN gs s l (e .1 .1)) _ (ih (e .0) (p .1 .0) (e .1 .1) (p .1 .1 .0) (λ j h. f j (omega arith)) (old .0 .1)))
     go ih lo e (d ∷ []) p old =
         let px = p .1 .1 in
@@ -145,11 +147,11 @@ removes fresh gs s (suc l) lo hi (e ∷ r) p f old = go (removes fresh gs s l) l
         let mp = mapE (new-of ℕ fresh (suc l)) in
         ⊎-elim
         (λ v. rw (lt-ltb s (d .0) v)
-          (ap mp (append-nil (rightN gs s l (remN gs s l) e d))
-           ∙ right-is fresh s l (getD gs (2 * l) 0) (getD gs (2 * l + 1) 0) FX FY e d (old .0) (old .1 .0) (remN gs s l (workR (e .1 .1) (d .1 .1))) v (λ o. sep-right l (e .0) (d .0) (p .1 .2 .1 .0) (e .1 .1) (d .1 .1) sx (py .0) (px .1) (py .1) s v) (ih (R .0) (R .1) (workR (e .1 .1) (d .1 .1)) (R .2) f′ (W .0))
-           ∙ sym (append-nil _)))
+        (ap mp (append-nil (rightN gs s l (remN gs s l) e d))
+        ∙ right-is fresh s l (getD gs (2 * l) 0) (getD gs (2 * l + 1) 0) FX FY e d (old .0) (old .1 .0) (remN gs s l (workR (e .1 .1) (d .1 .1))) v (λ o. sep-right l (e .0) (d .0) (p .1 .2 .1 .0) (e .1 .1) (d .1 .1) sx (py .0) (px .1) (py .1) s v) (ih (R .0) (R .1) (workR (e .1 .1) (d .1 .1)) (R .2) f′ (W .0))
+        ∙ sym (append-nil _)))
         (λ v. rw (le-ltb s (d .0) v)
-          (left-is fresh s l (getD gs (2 * l) 0) (getD gs (2 * l + 1) 0) FX FY e d (old .0) (old .1 .0) (remN gs s l (workL (e .1 .1) (d .1 .1))) v (λ o. sep-left l (e .0) (d .0) (p .1 .2 .1 .0) (e .1 .1) (d .1 .1) sx (py .0) (px .1) (py .1) s v) (ih (L .0) (L .1) (workL (e .1 .1) (d .1 .1)) (L .2) f′ (W .1))))
+        (left-is fresh s l (getD gs (2 * l) 0) (getD gs (2 * l + 1) 0) FX FY e d (old .0) (old .1 .0) (remN gs s l (workL (e .1 .1) (d .1 .1))) v (λ o. sep-left l (e .0) (d .0) (p .1 .2 .1 .0) (e .1 .1) (d .1 .1) sx (py .0) (px .1) (py .1) s v) (ih (L .0) (L .1) (workL (e .1 .1) (d .1 .1)) (L .2) f′ (W .1))))
         (cases-lt s (d .0))
     go ih lo e (d ∷ c ∷ r) p old =
         let px = p .1 .1 in
@@ -163,10 +165,10 @@ removes fresh gs s (suc l) lo hi (e ∷ r) p f old = go (removes fresh gs s l) l
         let FY = f (2 * l + 1) (omega arith) in
         ⊎-elim
         (λ v. rw (lt-ltb s (d .0) v)
-          (map-append (new-of ℕ fresh (suc l)) (rightN gs s l (remN gs s l) e d) (c ∷ r)
-           ∙ ap₂ (λ (a b : List (ℕ × Tree O ℕ l)). a ++ b)
-             (right-is fresh s l (getD gs (2 * l) 0) (getD gs (2 * l + 1) 0) FX FY e d (old .0) (old .1 .0) (remN gs s l (workR (e .1 .1) (d .1 .1))) v (λ o. sep-right l (e .0) (d .0) (p .1 .2 .1 .0) (e .1 .1) (d .1 .1) sx (py .0) (px .1) (py .1) s v) (ih (R .0) (R .1) (workR (e .1 .1) (d .1 .1)) (R .2) f′ (W .0)))
-             (map-old ℕ fresh (suc l) (c ∷ r) (old .1 .1))))
+        (map-append (new-of ℕ fresh (suc l)) (rightN gs s l (remN gs s l) e d) (c ∷ r)
+        ∙ ap₂ (λ (a b : List (ℕ × Tree O ℕ l)). a ++ b)
+        (right-is fresh s l (getD gs (2 * l) 0) (getD gs (2 * l + 1) 0) FX FY e d (old .0) (old .1 .0) (remN gs s l (workR (e .1 .1) (d .1 .1))) v (λ o. sep-right l (e .0) (d .0) (p .1 .2 .1 .0) (e .1 .1) (d .1 .1) sx (py .0) (px .1) (py .1) s v) (ih (R .0) (R .1) (workR (e .1 .1) (d .1 .1)) (R .2) f′ (W .0)))
+        (map-old ℕ fresh (suc l) (c ∷ r) (old .1 .1))))
         (λ v. rw (le-ltb s (d .0) v)
-          (ap₂ (λ (a : Tree O ℕ l) (b : List (ℕ × Tree O ℕ l)). (e .0, a) ∷ b) (over-old ℕ fresh (suc l) (e .1) (old .0)) (go ih (p .1 .0) d (c ∷ r) (p .1 .2) (old .1))))
+        (ap₂ (λ (a : Tree O ℕ l) (b : List (ℕ × Tree O ℕ l)). (e .0, a) ∷ b) (over-old ℕ fresh (suc l) (e .1) (old .0)) (go ih (p .1 .0) d (c ∷ r) (p .1 .2) (old .1))))
         (cases-lt s (d .0))

@@ -63,13 +63,13 @@ unfolding ops
 moves-places gs w s a zero es = omega arith
 moves-places gs w s a (suc l) es =
     down-places gs (2 * suc l) w s (kidMoves gs s a l (moves gs s a l))
-      (λ k t.
-        let ms = moves gs s a l (chosen s (t .1)) in
-        let ls = links l (mapE (λ c. (c .0, shallow l (c .1))) (kidN gs s a l (putN gs s a l) k t)) in
-        let le : 2 * l + 2 ≤ 2 * suc l = omega arith in
-        subst (Places gs 0 (2 * suc l)) (sym (ops-append w ms ls))
-          (places-le gs 0 (2 * l + 2) (2 * suc l) _ le (places-append gs 0 (2 * l) (2 * l + 2) (ops w ms) (ops w ls) (moves-places gs w s a l (chosen s (t .1))) (links-places gs (2 * l) w l s k (shallow l) (t .1) (putN gs s a l (chosen s (t .1)))))))
-      es
+    (λ k t.
+    let ms = moves gs s a l (chosen s (t .1)) in
+    let ls = links l (mapE (λ c. (c .0, shallow l (c .1))) (kidN gs s a l (putN gs s a l) k t)) in
+    let le : 2 * l + 2 ≤ 2 * suc l = omega arith in
+    subst (Places gs 0 (2 * suc l)) (sym (ops-append w ms ls))
+    (places-le gs 0 (2 * l + 2) (2 * suc l) _ le (places-append gs 0 (2 * l) (2 * l + 2) (ops w ms) (ops w ls) (moves-places gs w s a l (chosen s (t .1))) (links-places gs (2 * l) w l s k (shallow l) (t .1) (putN gs s a l (chosen s (t .1)))))))
+    es
 
 pub places-up : (gs : List ℕ) (i n k : ℕ) (os : List Op) → n ≤ k → Places gs i n os → Places gs i k os
 places-up gs i n k os h p = places-le gs i n k os h p

@@ -37,15 +37,18 @@ olds m cs h c zero (e ∷ r) a p = (tt, olds m cs h c zero r a (p .1))
 olds m cs h c (suc l) es a p = go (olds m cs h c l) es a p
   where
     go : ((es : List (ℕ × Pay ℕ ℕ l)) → ((b : ℕ) → 0 < occ b (kids l es) → 0 < getD cs b 0) → Every (Stored (blockAt m) l) es → Every (Old ℕ (unused cs) l) es)
-      → (es : List (ℕ × Tree ℕ ℕ l)) → ((b : ℕ) → 0 < occ b (kids (suc l) es) → 0 < getD cs b 0) → Every (Stored (blockAt m) (suc l)) es → Every (Old ℕ (unused cs) (suc l)) es
+        → (es : List (ℕ × Tree ℕ ℕ l)) → ((b : ℕ) → 0 < occ b (kids (suc l) es) → 0 < getD cs b 0) → Every (Stored (blockAt m) (suc l)) es → Every (Old ℕ (unused cs) (suc l)) es
     go ih [] a p = tt
     go ih (e ∷ r) a p =
         let x = e .1 .0 in
         let ax : 0 < getD cs x 0 = a x (omega (arith, one-same x x refl)) in
-        let st = p .0 .0 in
-        ((ne-eqb (getD cs x 0) 0 (λ z. omega arith),
-          ih (e .1 .1) (λ b q. kids-alive m cs h x b c ax (subst (λ (o : Option Block). 0 < occ b (kidsOf o)) (sym st) q)) (p .0 .1)),
-         go ih r (λ b q. a b (omega arith)) (p .1))
+        let st = p .0 .0 in (
+          (
+            ne-eqb (getD cs x 0) 0 (λ z. omega arith),
+            ih (e .1 .1) (λ b q. kids-alive m cs h x b c ax (subst (λ (o : Option Block). 0 < occ b (kidsOf o)) (sym st) q)) (p .0 .1),
+          ),
+          go ih r (λ b q. a b (omega arith)) (p .1),
+        )
 
 -- a root above the entries, or the only one of these
 crown-one : (l x : ℕ) (us : List (ℕ × Tree ℕ ℕ l)) (d : ℕ × Tree ℕ ℕ l) → length us ≡ 1 → us ≡ getD us 0 d ∷ []
@@ -87,10 +90,23 @@ module _ (m : Meaning) (cs gs : List ℕ) (block level s : ℕ) (r : Root ℕ �
 
   pub top-ready : level < 5 → (n : Block) → n .level ≡ level + 1 → n .entries ≡ (0, block) ∷ [] → Ready m cs gs n s (suc l) es
   top-ready k n v e = record {
-      is = ap₂ page (omega (arith, v, p .height)) (e ∙ ap (λ (b : ℕ). (0, b) ∷ []) (sym (p .at)));
-      stored = (p .stored, tt); lo = 0; hi = 10000; span = (refl, (10000, (p .wf .0, p .wf .1, p .wf .2), refl)); low = omega arith; high = p .speed; room = omega arith; enough = λ z. omega arith;
-      others = h; counted = above; modest = λ b. omega (arith, p .modest b, p .height); few = p .few; left = omega (arith, p .left); places = λ j lt. p .free .on j (omega arith); wide = p .wide;
-    }
+    is = ap₂ page (omega (arith, v, p .height)) (e ∙ ap (λ (b : ℕ). (0, b) ∷ []) (sym (p .at)));
+    stored = (p .stored, tt);
+    lo = 0;
+    hi = 10000;
+    span = (refl, (10000, (p .wf .0, p .wf .1, p .wf .2), refl));
+    low = omega arith;
+    high = p .speed;
+    room = omega arith;
+    enough = λ z. omega arith;
+    others = h;
+    counted = above;
+    modest = λ b. omega (arith, p .modest b, p .height);
+    few = p .few;
+    left = omega (arith, p .left);
+    places = λ j lt. p .free .on j (omega arith);
+    wide = p .wide;
+  }
 
   old : Old ℕ (unused cs) (suc l) t
   old = olds m cs (λ b. occ b (kids (suc l) es) + h b) above (suc l) es (λ b q. omega (arith, above .eqn b)) (p .stored, tt) .0
@@ -133,11 +149,16 @@ module _ (m : Meaning) (cs gs : List ℕ) (block level s : ℕ) (r : Root ℕ �
         let st : Every (Stored (blockAt (q₁ .0)) (suc l)) (o ∷ []) = subst (Every (Stored (blockAt (q₁ .0)) (suc l))) one-is (S .stored) in
         let ct : Counted (blockAt (q₁ .0)) (q₁ .1) (λ b. occ b (kids (suc l) (o ∷ [])) + h b) = subst (λ (z : List (ℕ × Tree ℕ ℕ l)). Counted (blockAt (q₁ .0)) (q₁ .1) (λ b. occ b (kids (suc l) z) + h b)) one-is (S .counted) in
         let G : Grown m cs (q₁ .0) (q₁ .1) gs b level s a r h (l, o .1) = record {
-              height = p .height; at = sym num ∙ e; put = subst (λ (u : Root ℕ ℕ). IsPut (unused cs) s a r u) u-is is-put; stored = st .0;
-              counted = recount (λ b. occ b (kids (suc l) (o ∷ [])) + h b) (λ b. one (o .1 .0) b + h b) (λ b. omega arith) ct;
-              kept = record { cells = λ b out. S .kept .cells b (λ j lt. out j (omega arith)); free = λ b out. S .kept .free b (λ j lt. out j (omega arith)) };
-              os = ops (m .width) (moves gs s a (suc l) es); trace = run-replay (moves gs s a (suc l) es) (stateOf m cs);
-              places = places-up gs 0 (2 * suc l) N (ops (m .width) (moves gs s a (suc l) es)) (omega arith) (moves-places gs (m .width) s a (suc l) es) } in
+          height = p .height;
+          at = sym num ∙ e;
+          put = subst (λ (u : Root ℕ ℕ). IsPut (unused cs) s a r u) u-is is-put;
+          stored = st .0;
+          counted = recount (λ b. occ b (kids (suc l) (o ∷ [])) + h b) (λ b. one (o .1 .0) b + h b) (λ b. omega arith) ct;
+          kept = record { cells = λ b out. S .kept .cells b (λ j lt. out j (omega arith)); free = λ b out. S .kept .free b (λ j lt. out j (omega arith)) };
+          os = ops (m .width) (moves gs s a (suc l) es);
+          trace = run-replay (moves gs s a (suc l) es) (stateOf m cs);
+          places = places-up gs 0 (2 * suc l) N (ops (m .width) (moves gs s a (suc l) es)) (omega arith) (moves-places gs (m .width) s a (suc l) es);
+        } in
         subst (λ (u : Root ℕ ℕ). Grown m cs (q .0) (q .1) gs b level s a r h u) (sym u-is) (subst (λ (z : State). Grown m cs (z .0) (z .1) gs b level s a r h (l, o .1)) (sym (M .state)) G)
 
     -- more than one: they go below a new root
@@ -151,9 +172,14 @@ module _ (m : Meaning) (cs gs : List ℕ) (block level s : ℕ) (r : Root ℕ �
           let w = moves-writes gs s a (suc l) es in
           let o = p .free .on (2 * suc l) (omega arith) in
           let lv : made .level ≡ suc l = ap (λ (x : Block). x .level) (M .is) in
-          let five = root-low (unused cs) gs s a r (p .speed) (p .wf) fresh old in
-          ((omega (arith, z .width, p .wide .0), omega (arith, z .width, p .wide .1)), omega (arith, z .blocks, o .0), omega (arith, z .counts, o .1), omega (arith, z .left, w, p .left),
-           omega (arith, lv, five, ap (λ (u : Root ℕ ℕ). u .0) u-is), lv)
+          let five = root-low (unused cs) gs s a r (p .speed) (p .wf) fresh old in (
+            (omega (arith, z .width, p .wide .0), omega (arith, z .width, p .wide .1)),
+            omega (arith, z .blocks, o .0),
+            omega (arith, z .counts, o .1),
+            omega (arith, z .left, w, p .left),
+            omega (arith, lv, five, ap (λ (u : Root ℕ ℕ). u .0) u-is),
+            lv,
+          )
 
       pub more-grown : (b : ℕ) → b ≡ getD gs (2 * suc l) 0 → (q′ : State) → q′ ≡ step (linking b made) q → Layout (q .0 .width) made → Grown m cs (q′ .0) (q′ .1) gs b (level + 1) s a r h (putRootN gs s a r)
       more-grown b e q′ e′ laid =
@@ -170,14 +196,18 @@ module _ (m : Meaning) (cs gs : List ℕ) (block level s : ℕ) (r : Root ℕ �
           let ms = moves gs s a (suc l) es in
           let last : Op = (x, encode (q₁ .0 .width) (nodeOf (suc l) us)) in
           let G : Grown m cs (q₂ .0) (q₂ .1) gs b (level + 1) s a r h (suc l, (x, us)) = record {
-                height = omega (arith, p .height); at = sym e; put = subst (λ (u : Root ℕ ℕ). IsPut (unused cs) s a r u) u-is is-put;
-                stored = link-stored q₁ x (suc l) us h fx wx ox ly (S .stored) (S .counted);
-                counted = link-counted q₁ x (suc l) us h fx wx ox ly (S .stored) (S .counted);
-                kept = record {
-                  cells = λ c out. link-cells q₁ x (suc l) us h fx wx ox ly (S .stored) (S .counted) c (out (2 * suc l) (omega arith)) ∙ S .kept .cells c (λ j lt. out j (omega arith));
-                  free = λ c out v. link-counts q₁ x (suc l) us h fx wx ox ly (S .stored) (S .counted) c (out (2 * suc l) (omega arith)) ∙ S .kept .free c (λ j lt. out j (omega arith)) v };
-                os = ops (m .width) ms ++ last ∷ [];
-                trace = ap (λ (k : Meaning). replay (last ∷ []) k) (run-replay ms (stateOf m cs)) ∙ sym (replay-append (ops (m .width) ms) (last ∷ []) m);
-                places = places-append gs 0 (2 * suc l) N (ops (m .width) ms) (last ∷ []) (moves-places gs (m .width) s a (suc l) es) (2 * suc l, omega arith, refl, omega arith) } in
+            height = omega (arith, p .height);
+            at = sym e;
+            put = subst (λ (u : Root ℕ ℕ). IsPut (unused cs) s a r u) u-is is-put;
+            stored = link-stored q₁ x (suc l) us h fx wx ox ly (S .stored) (S .counted);
+            counted = link-counted q₁ x (suc l) us h fx wx ox ly (S .stored) (S .counted);
+            kept = record {
+              cells = λ c out. link-cells q₁ x (suc l) us h fx wx ox ly (S .stored) (S .counted) c (out (2 * suc l) (omega arith)) ∙ S .kept .cells c (λ j lt. out j (omega arith));
+              free = λ c out v. link-counts q₁ x (suc l) us h fx wx ox ly (S .stored) (S .counted) c (out (2 * suc l) (omega arith)) ∙ S .kept .free c (λ j lt. out j (omega arith)) v;
+            };
+            os = ops (m .width) ms ++ last ∷ [];
+            trace = ap (λ (k : Meaning). replay (last ∷ []) k) (run-replay ms (stateOf m cs)) ∙ sym (replay-append (ops (m .width) ms) (last ∷ []) m);
+            places = places-append gs 0 (2 * suc l) N (ops (m .width) ms) (last ∷ []) (moves-places gs (m .width) s a (suc l) es) (2 * suc l, omega arith, refl, omega arith);
+          } in
           let to : q′ ≡ q₂ = e′ ∙ ap (λ (y : ℕ). step (linking y made) q) e ∙ ap (λ (n : Block). step (linking x n) q) (M .is) ∙ ap (step (linking x (nodeOf (suc l) us))) (M .state) in
           subst (λ (u : Root ℕ ℕ). Grown m cs (q′ .0) (q′ .1) gs b (level + 1) s a r h u) (sym u-is) (subst (λ (y : State). Grown m cs (y .0) (y .1) gs b (level + 1) s a r h (suc l, (x, us))) (sym to) G)

@@ -42,8 +42,8 @@ module _ {X : Type 0} (s : ℕ) where
   abbrev pub parted : ℕ → List (ℕ × X) → List (ℕ × X) → List (ℕ × List (ℕ × X))
   parted k es made =
       cond (eqb (length es) 15)
-        (cond (ltb s (first (drop 7 es))) ((k, made) ∷ (first (drop 7 es), drop 7 es) ∷ []) ((k, take 7 es) ∷ (first (drop 7 es), made) ∷ []))
-        ((k, made) ∷ [])
+      (cond (ltb s (first (drop 7 es))) ((k, made) ∷ (first (drop 7 es), drop 7 es) ∷ []) ((k, take 7 es) ∷ (first (drop 7 es), made) ∷ []))
+      ((k, made) ∷ [])
 
 -- the left block, and the right one
 abbrev pub placed : {X : Type 0} → ℕ → ℕ → List (ℕ × X) → List (ℕ × (ℕ × X))

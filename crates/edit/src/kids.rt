@@ -6,7 +6,6 @@ ghost use lib.ListN.{length, getD, take, drop};
 ghost use Rattle.page.specs.View.{entries};
 ghost use Rattle.edit.specs.Plan.{chosen};
 ghost use Rattle.edit.specs.Kids.{listed};
-
 use page::page::Entry;
 use page::page::Page;
 

@@ -22,9 +22,9 @@ ghost use Rattle.edit.specs.Kids.{listed};
 
 mod kids;
 
-use device::Device;
 use counts::Grant;
 use counts::Store;
+use device::Device;
 use kids::Kids;
 use kids::part_for;
 use kids::with_kids;
@@ -60,7 +60,14 @@ fn link_two<D: Device>(store: &mut Store<D>, left: u32, right: u32, lower: &Page
 }
 
 // Writes what stands for a child, once the part that a speed belongs to is made anew, to the next places of the grant.
-fn link_kids<D: Device>(store: &mut Store<D>, grant: &mut Grant, key: u32, child: &Page, made: &Page, speed: u32) -> Kids
+fn link_kids<D: Device>(
+    store: &mut Store<D>,
+    grant: &mut Grant,
+    key: u32,
+    child: &Page,
+    made: &Page,
+    speed: u32,
+) -> Kids
     requires sound { ⌜ D·Device .sound (now store .device) ⌝ }
     requires wide { ⌜ Wide (D·Device .meaning (now store .device)) ⌝ }
     requires places { ⌜ Open (D·Device .meaning (now store .device)) (vec-items (now store .counts .of)) (now grant .blocks) (now grant .next) ⌝ }
@@ -80,12 +87,27 @@ fn link_kids<D: Device>(store: &mut Store<D>, grant: &mut Grant, key: u32, child
     if child.len < 15 {
         grant.give_back();
         store.link(left, made);
-        return Kids { first: Entry { speed: key, value: left }, second: None };
+        return Kids {
+            first: Entry {
+                speed: key,
+                value: left,
+            },
+            second: None,
+        };
     }
     let right = grant.take();
     let upper = child.upper(7);
     let sep = upper.items[0].speed;
-    let kids = Kids { first: Entry { speed: key, value: left }, second: Some(Entry { speed: sep, value: right }) };
+    let kids = Kids {
+        first: Entry {
+            speed: key,
+            value: left,
+        },
+        second: Some(Entry {
+            speed: sep,
+            value: right,
+        }),
+    };
     if speed < sep {
         link_two(store, left, right, made, &upper);
         return kids;
@@ -130,15 +152,27 @@ pub fn put_tree<D: Device>(store: &mut Store<D>, root: Root, row: Entry, grant: 
     ensures grown { λ u. ⌜ ((r : Tree-root ℕ ℕ) (h : ℕ → ℕ) → Rooted (D·Device .meaning (now (store .entry) .device)) (vec-items (now (store .entry) .counts .of)) (grant .blocks) (root .block) (root .level) (row .speed) r h → Grown (D·Device .meaning (now (store .entry) .device)) (vec-items (now (store .entry) .counts .of)) (D·Device .meaning (now (store .exit) .device)) (vec-items (now (store .exit) .counts .of)) (grant .blocks) (u .block) (u .level) (row .speed) (row .value) r h (putRootN (grant .blocks) (row .speed) (row .value) r)) ⌝ }
 {
     let mut grant = grant;
-    let top = Page::single(root.level + 1, Entry { speed: 0, value: root.block });
+    let top = Page::single(
+        root.level + 1,
+        Entry {
+            speed: 0,
+            value: root.block,
+        },
+    );
     let made = put_in(store, &mut grant, &top, row);
     if made.len == 1 {
         grant.give_back();
         grant.end();
-        return Root { block: made.items[0].value, level: root.level };
+        return Root {
+            block: made.items[0].value,
+            level: root.level,
+        };
     }
     let block = grant.take();
     grant.end();
     store.link(block, &made);
-    Root { block, level: root.level + 1 }
+    Root {
+        block,
+        level: root.level + 1,
+    }
 }

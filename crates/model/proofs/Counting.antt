@@ -75,14 +75,20 @@ module _ (P : Type 0) where
   ps-length (suc l) es = go (ps-length l) (2 * l) es
     where
       go : ((es : List (ℕ × Pay (Option ℕ) P l)) → length (collect P ℕ (itsPlace P) l es) ≡ tally isNew (flat (λ k x. Marks (Option ℕ) P l x) es))
-        → (i : ℕ) (es : List (ℕ × tree.Tree (Option ℕ) P l)) → length (along (itsPlace P l) (collect P ℕ (itsPlace P) l) i (2 * l + 1) es) ≡ tally isNew (flat (λ k x. Marks (Option ℕ) P (suc l) x) es)
+          → (i : ℕ) (es : List (ℕ × tree.Tree (Option ℕ) P l)) → length (along (itsPlace P l) (collect P ℕ (itsPlace P) l) i (2 * l + 1) es) ≡ tally isNew (flat (λ k x. Marks (Option ℕ) P (suc l) x) es)
       go ih i [] = refl
       go ih i (e ∷ r) =
           let j : ℕ = onward (e .1 .0) i (2 * l + 1) in
           let A : List ℕ = taking (e .1 .0) i (collect P ℕ (itsPlace P) l (e .1 .1)) in
           let B : List ℕ = along (itsPlace P l) (collect P ℕ (itsPlace P) l) j (2 * l + 1) r in
-          omega (arith, length-append A B, taking-length (e .1 .0) i (collect P ℕ (itsPlace P) l (e .1 .1)), ih (e .1 .1), go ih j r,
-                 tally-append isNew (Marks (Option ℕ) P (suc l) (e .1)) (flat (λ k x. Marks (Option ℕ) P (suc l) x) r))
+          omega (
+            arith,
+            length-append A B,
+            taking-length (e .1 .0) i (collect P ℕ (itsPlace P) l (e .1 .1)),
+            ih (e .1 .1),
+            go ih j r,
+            tally-append isNew (Marks (Option ℕ) P (suc l) (e .1)) (flat (λ k x. Marks (Option ℕ) P (suc l) x) r),
+          )
 
   pub places-length : (r : tree.Root (Option ℕ) P) → length (places P r) ≡ news P r
   places-length r = taking-length (r .1 .0) (2 * r .0) (collect P ℕ (itsPlace P) (r .0) (r .1 .1)) ∙ ap (λ n. isNew (r .1 .0) + n) (ps-length (r .0) (r .1 .1))

@@ -139,7 +139,6 @@ good-set P (Some r ∷ t) zero (Some x) h g = (g, h .1)
 good-set P (None ∷ t) (suc n) o h g = good-set P t n o h g
 good-set P (Some r ∷ t) (suc n) o h g = (h .0, good-set P t n o (h .1) g)
 
-
 abbrev pub Goods : ℕ → (ℕ → Content) → Table → Type 0
 Goods n c t = AllGood (Good n c) t
 
@@ -171,8 +170,9 @@ good-inside n c [] g b h = absurd h
 good-inside n c (None ∷ t) g b h = good-inside n c t g b h
 good-inside n c (Some r ∷ t) g b h =
     elim (elem-cases b (reach (form (treeAt c r))) (Reaches c t) h) [
-      inl k ↦ fit-inside n (treeAt c r) (g .0 .fit) b (subst (λ z. T (elem b z)) (reach-form (treeAt c r)) k) .0
-    | inr k ↦ good-inside n c t (g .1) b k ]
+      | inl k ↦ fit-inside n (treeAt c r) (g .0 .fit) b (subst (λ z. T (elem b z)) (reach-form (treeAt c r)) k) .0
+      | inr k ↦ good-inside n c t (g .1) b k
+    ]
 
 abbrev pub treeAt? : (ℕ → Content) → Option Root → Option (Root × Tree)
 treeAt? c None = None

@@ -67,8 +67,8 @@ good-rooted n c r g =
     let low : topLevel (r .0) ≤ 4 = five-high ℕ ℕ (treeAt c r .0) (treeAt c r .1) (same-rule ℕ ℕ (treeAt c r .0) (treeAt c r .1) .1 (f .laid)) in
     let h5 : r .0 ≤ 5 = height-low (r .0) low in
     and-from (leb 1 (r .0) && leb (r .0) 5) (leb 2 (r .1) && ltb (r .1) n)
-      (and-from (leb 1 (r .0)) (leb (r .0) 5) (le-leb 1 (r .0) (g .height)) (le-leb (r .0) 5 h5))
-      (and-from (leb 2 (r .1)) (ltb (r .1) n) (le-leb 2 (r .1) (f .inside .0 .0)) (lt-ltb (r .1) n (f .inside .0 .1)))
+    (and-from (leb 1 (r .0)) (leb (r .0) 5) (le-leb 1 (r .0) (g .height)) (le-leb (r .0) 5 h5))
+    (and-from (leb 2 (r .1)) (ltb (r .1) n) (le-leb 2 (r .1) (f .inside .0 .0)) (lt-ltb (r .1) n (f .inside .0 .1)))
   where
     height-low : (h : ℕ) → topLevel h ≤ 4 → h ≤ 5
     height-low zero q = omega arith
@@ -125,8 +125,10 @@ module _ (t : Tables) (m : Meaning) (z : sizes (blocksOf m) (m .width) ≡ true)
     where
       at-place : (o : Option Root) → place (t .working) n ≡ o → place (M .working) n ≡ treeAt? (currentAt m) o
       at-place o e = trees-place (currentAt m) (t .working) n ∙ ap (treeAt? (currentAt m)) e
+
       at-form : (o : Option Root) → place (t .working) n ≡ o → place (S .working) n ≡ formOf? (treeAt? (currentAt m) o)
       at-form o e = forms-place (M .working) n ∙ ap formOf? (at-place o e)
+
       go : (o : Option Root) → place (t .working) n ≡ o → OnPlace (Good (blocksOf m) (currentAt m)) (place (t .working) n) → Rooted n
       go None e g = absurd (let q : false ≡ true = sym (ap isSome (at-form None e)) ∙ h in subst T (sym q) tt)
       go (Some r) e g = record {
@@ -134,7 +136,8 @@ module _ (t : Tables) (m : Meaning) (z : sizes (blocksOf m) (m .width) ≡ true)
         spot = e;
         good = subst (OnPlace (Good (blocksOf m) (currentAt m))) e g;
         tree = ap (λ o. elim o as (λ _. Tree) [ Some x ↦ x .1 | None ↦ bareTree ]) (at-place (Some r) e);
-        high = ap (λ o. elim o as (λ _. ℕ) [ Some x ↦ x .0 .0 | None ↦ 0 ]) (at-form (Some r) e) }
+        high = ap (λ o. elim o as (λ _. ℕ) [ Some x ↦ x .0 .0 | None ↦ 0 ]) (at-form (Some r) e);
+      }
 
   pub enough : (n k : ℕ) → needs S n k ≡ None → k ≤ length (free S)
   enough n k e = ltb-false (length (free S)) k (first-none (ltb (length (free S)) k) Short ((ltb (S .left) k, Worn (Some n) (S .layer)) ∷ []) e .0)

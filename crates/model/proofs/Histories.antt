@@ -46,6 +46,7 @@ in-small b h = go (eqb b 0) refl h
     go₁ : (k : Bool) → eqb b 1 ≡ k → T (k || false) → b < 2
     go₁ true e h = let z : b ≡ 1 = eqb→eq b 1 (subst T (sym e) tt) in omega arith
     go₁ false e h = absurd h
+
     go : (k : Bool) → eqb b 0 ≡ k → T (k || (eqb b 1 || false)) → b < 2
     go true e h = let z : b ≡ 0 = eqb→eq b 0 (subst T (sym e) tt) in omega arith
     go false e h = go₁ (eqb b 1) refl h
@@ -83,7 +84,6 @@ pub record Base (t : Tables) (m : Meaning) : Type 0 where
   pub len : length (t .working) ≡ 24
   pub goods : Goods (blocksOf m) (currentAt m) (t .working)
 
-
 currentAt-keeps : (R : List ℕ) (m m′ : Meaning) → Keeps R m m′ → Same R (currentAt m) (currentAt m′)
 currentAt-keeps R m m′ k b h = ap (λ c. c .current) (k b h)
 
@@ -118,7 +118,8 @@ found-kept m g t K = ap (λ k. cond k (seen m) (Err Shape)) (K .sized) ∙ go (g
     sees : (x : ℕ × Table) → x ≡ (g, t) → (l : Option (ℕ × Table)) → l ≡ Some x → walked (walk (blocksOf m) (currentAt m) 0) l ≡ Ok (g, t)
     sees x ex l el =
         ap (walked (walk (blocksOf m) (currentAt m) 0)) (el ∙ ap Some ex)
-          ∙ ap (λ o. elim o as (λ _. Result (ℕ × Table) Refusal) [ Some r ↦ Err (faulty r) | None ↦ Ok (g, t) ]) (walk-none (blocksOf m) (currentAt m) 0 t (K .goods))
+        ∙ ap (λ o. elim o as (λ _. Result (ℕ × Table) Refusal) [ Some r ↦ Err (faulty r) | None ↦ Ok (g, t) ]) (walk-none (blocksOf m) (currentAt m) 0 t (K .goods))
+
     even : g % 2 ≡ 0 → seen m ≡ Ok (g, t)
     even z =
         let z′ : suc g % 2 ≡ 1 = omega arith in
@@ -128,6 +129,7 @@ found-kept m g t K = ap (λ k. cond k (seen m) (Err Shape)) (K .sized) ∙ go (g
         let u : eqb (suc g) (K .older) ≡ false = unequal (suc g) (K .older) (λ e. omega arith) in
         let v : eqb (suc (K .older)) g ≡ true = equal (suc (K .older)) g b in
         sees (g, t) refl _ (ap₂ latest s₀ s₁ ∙ ap₂ (λ p q. cond p (Some (K .older, K .olderTable)) (cond q (Some (g, t)) None)) u v)
+
     odd : g % 2 ≡ 1 → seen m ≡ Ok (g, t)
     odd z =
         let z′ : suc g % 2 ≡ 0 = omega arith in
@@ -135,6 +137,7 @@ found-kept m g t K = ap (λ k. cond k (seen m) (Err Shape)) (K .sized) ∙ go (g
         let s₀ : slotIn (blocksOf m) 0 (currentAt m 0) ≡ Some (K .older, K .olderTable) = subst (λ n. slotIn (blocksOf m) n (currentAt m n) ≡ Some (K .older, K .olderTable)) z′ (K .otherSlot) in
         let v : eqb (suc (K .older)) g ≡ true = equal (suc (K .older)) g (K .before) in
         sees (g, t) refl _ (ap₂ latest s₀ s₁ ∙ ap (λ p. cond p (Some (g, t)) (cond (eqb (suc g) (K .older)) (Some (K .older, K .olderTable)) None)) v)
+
     go : (r : ℕ) → g % 2 ≡ r → seen m ≡ Ok (g, t)
     go zero e = even e
     go (suc zero) e = odd e
@@ -175,8 +178,9 @@ wider-committed t m b h =
     let W : List ℕ = Reaches (currentAt m) (t .working) in
     let C : List ℕ = Reaches (currentAt m) (t .committed) in
     elim (elem-cases b (0 ∷ 1 ∷ []) C h) [
-      inl k ↦ elem-left b (0 ∷ 1 ∷ []) (W ++ C) k
-    | inr k ↦ elem-right b (0 ∷ 1 ∷ []) (W ++ C) (elem-right b W C k) ]
+      | inl k ↦ elem-left b (0 ∷ 1 ∷ []) (W ++ C) k
+      | inr k ↦ elem-right b (0 ∷ 1 ∷ []) (W ++ C) (elem-right b W C k)
+    ]
 
 pub in-working : (t : Tables) (m : Meaning) (b : ℕ) → T (elem b (Reaches (currentAt m) (t .working))) → T (elem b (0 ∷ 1 ∷ used (shape t m)))
 in-working t m b h =
@@ -189,7 +193,7 @@ keeps-free t m os f = keeps-writes (0 ∷ 1 ∷ used (shape t m)) os m (each-map
 
 -- the committed table outlives them
 free-kept : (t : Tables) (m : Meaning) (os : List Op) → Base t m → Each (FreeWrite t m) os
-  → Kept (replay os m) (t .generation) (t .committed) × (trees (currentAt (replay os m)) (t .committed) ≡ trees (currentAt m) (t .committed))
+    → Kept (replay os m) (t .generation) (t .committed) × (trees (currentAt (replay os m)) (t .committed) ≡ trees (currentAt m) (t .committed))
 free-kept t m os B f =
     let C : List ℕ = Reaches (currentAt m) (t .committed) in
     let ks : Keeps (0 ∷ 1 ∷ C) m (replay os m) = λ b h. keeps-free t m os f b (wider-committed t m b h) in
@@ -213,19 +217,19 @@ sown-fine t m n d os w′ B F G =
     let et : treeAt (currentAt m₁) r ≡ u = tree-stored (currentAt m₁) u (G .3) in
     let g₁ : Good (blocksOf m) (currentAt m₁) r = record { height = omega arith; stored = subst (Stored (currentAt m₁)) (sym et) (G .3); fit = subst (Fit (blocksOf m)) (sym et) F } in
     let ms : trees (currentAt m₁) (set (t .working) n (Some r)) ≡ set (trees (currentAt m) (t .working)) n (standing u)
-          = trees-put (currentAt m₁) (t .working) n (Some r) ∙ ap₂ (λ (v : Trees) (y : Tree). set v n (Some (r, y))) (trees-same (currentAt m) (currentAt m₁) (t .working) same) et in
+    = trees-put (currentAt m₁) (t .working) n (Some r) ∙ ap₂ (λ (v : Trees) (y : Tree). set v n (Some (r, y))) (trees-same (currentAt m) (currentAt m₁) (t .working) same) et in
     let ws : Each IsWrite os = each-map (FreeWrite t m) IsWrite (are-writes t m) os (G .0) in
     let ps : List ℕ = places ℕ (changed ℕ d (source (modelOf t m) n d)) in
     let en : length os ≡ k
-          = sym (targets-length os ws) ∙ same-length (targets os) (newBlocks d (free (shape t m)) (source (modelOf t m) n d)) (G .1)
-            ∙ length-map ps (λ i. getD (free (shape t m)) i 0) ∙ places-length ℕ (changed ℕ d (source (modelOf t m) n d)) ∙ writes-form d (source (modelOf t m) n d) in
+    = sym (targets-length os ws) ∙ same-length (targets os) (newBlocks d (free (shape t m)) (source (modelOf t m) n d)) (G .1)
+    ∙ length-map ps (λ i. getD (free (shape t m)) i 0) ∙ places-length ℕ (changed ℕ d (source (modelOf t m) n d)) ∙ writes-form d (source (modelOf t m) n d) in
     let el : m₁ .left ≡ leftAfter k (m .left) = left-replay os m ws ∙ ap (λ y. leftAfter y (m .left)) en in
     let base : Base (placed t (set (t .working) n (Some r))) m₁ = record {
-          calm = calm-replay os m (B .calm);
-          kept = K .0;
-          len = length-set (t .working) n (Some r) ∙ B .len;
-          goods = subst (λ y. Goods y (currentAt m₁) (set (t .working) n (Some r))) (sym eb) (good-set (Good (blocksOf m) (currentAt m₁)) (t .working) n (Some r) gs g₁);
-        } in
+      calm = calm-replay os m (B .calm);
+      kept = K .0;
+      len = length-set (t .working) n (Some r) ∙ B .len;
+      goods = subst (λ y. Goods y (currentAt m₁) (set (t .working) n (Some r))) (sym eb) (good-set (Good (blocksOf m) (currentAt m₁)) (t .working) n (Some r) gs g₁);
+    } in
     subst (λ w. Fine (withChange (modelOf t m) n d) w m₁) (sym (G .2)) (base, λ i. record { working = ms i; committed = K .1 i; generation = t .generation; blocks = eb i; left = el i; layer = layer-replay os m i })
 
 grown-fine : (t : Tables) (m : Meaning) (n : ℕ) (d : Change ℕ) (os : List Op) (w′ : Mode) (m′ : Meaning) → Base t m → m′ ≡ replay os m → Fit (blocksOf m) (newTree (modelOf t m) n d) → Changed t m n d os w′ m′ → Fine (withChange (modelOf t m) n d) w′ m′
@@ -243,8 +247,11 @@ quiet-fine p w w′ m m′ os em q f =
 -- the working place n gets what is at o
 placed-base : (t : Tables) (m : Meaning) (n : ℕ) (o : Option Root) → Base t m → OnPlace (Good (blocksOf m) (currentAt m)) o → Base (placed t (set (t .working) n o)) m
 placed-base t m n o B g = record {
-  calm = B .calm; kept = B .kept; len = length-set (t .working) n o ∙ B .len;
-  goods = good-set (Good (blocksOf m) (currentAt m)) (t .working) n o (B .goods) g }
+  calm = B .calm;
+  kept = B .kept;
+  len = length-set (t .working) n o ∙ B .len;
+  goods = good-set (Good (blocksOf m) (currentAt m)) (t .working) n o (B .goods) g;
+}
 
 -- seal
 flush-contents : (m : Meaning) → currentAt (apply flush m) ≡ currentAt m
@@ -252,8 +259,13 @@ flush-contents m = fun-ext (λ b. ap (λ c. c .current) (flush-at m b))
 
 model-flush : (t : Tables) (m : Meaning) → modelOf t (apply flush m) ≡ modelOf t m
 model-flush t m = λ i. record {
-  working = trees (flush-contents m i) (t .working); committed = trees (flush-contents m i) (t .committed); generation = t .generation;
-  blocks = blocks-apply flush m i; left = m .left; layer = m .leftMark }
+  working = trees (flush-contents m i) (t .working);
+  committed = trees (flush-contents m i) (t .committed);
+  generation = t .generation;
+  blocks = blocks-apply flush m i;
+  left = m .left;
+  layer = m .leftMark;
+}
 
 seal-base : (t : Tables) (m : Meaning) → Base t m → Base t (apply flush m)
 seal-base t m B =
@@ -282,13 +294,13 @@ seal-fits t m h e =
     omega (arith, ne)
 
 effect-fine : (q : Ask) (t : Tables) (m : Meaning) (os : List Op) (w′ : Mode) (m′ : Meaning) → Base t m → m′ ≡ replay os m
-  → refusal (shape t m) q ≡ None → Effect t m q os w′ m′ → Fine (after (modelOf t m) q) w′ m′
+    → refusal (shape t m) q ≡ None → Effect t m q os w′ m′ → Fine (after (modelOf t m) q) w′ m′
 unfolding Fine
 effect-fine (create n) t m os w′ m′ B em no′ E = grown-fine t m n begin os w′ m′ B em (create-fit t m (B .kept .sized) (B .goods) n no′) E
 effect-fine (clone f n) t m os w′ m′ B em no′ E =
     let o : Option Root = place (t .working) f in
     let e : trees (currentAt m) (set (t .working) n o) ≡ set (trees (currentAt m) (t .working)) n (place (trees (currentAt m) (t .working)) f)
-          = trees-put (currentAt m) (t .working) n o ∙ ap (λ x. set (trees (currentAt m) (t .working)) n x) (sym (trees-place (currentAt m) (t .working) f)) in
+    = trees-put (currentAt m) (t .working) n o ∙ ap (λ x. set (trees (currentAt m) (t .working)) n x) (sym (trees-place (currentAt m) (t .working) f)) in
     quiet-fine _ (mounted (placed t (set (t .working) n o))) w′ m m′ os em E (placed-base t m n o B (good-at _ (t .working) f (B .goods)), ap (working≔ (modelOf t m)) e)
 effect-fine (delete n) t m os w′ m′ B em no′ E =
     quiet-fine _ (mounted (placed t (set (t .working) n None))) w′ m m′ os em E (placed-base t m n None B tt, ap (working≔ (modelOf t m)) (trees-put (currentAt m) (t .working) n None))
@@ -308,27 +320,29 @@ effect-fine seal t m os w′ m′ B em no′ E =
 
 -- the device after the slot of the working table is written, however that came
 commit-kept : (t : Tables) (m d : Meaning) → Base t m → suc (t .generation) ≤ 268435455 → blocksOf d ≡ blocksOf m → d .width ≡ m .width → ((b : ℕ) → cellAt d b .mark ≡ 0)
-  → currentAt d (suc (t .generation) % 2) ≡ words (slotWords (m .width) (suc (t .generation)) (t .working))
-  → ((b : ℕ) → (b ≡ suc (t .generation) % 2 → ⊥) → currentAt d b ≡ currentAt m b)
-  → Kept d (suc (t .generation)) (t .working) × (trees (currentAt d) (t .working) ≡ trees (currentAt m) (t .working))
+    → currentAt d (suc (t .generation) % 2) ≡ words (slotWords (m .width) (suc (t .generation)) (t .working))
+    → ((b : ℕ) → (b ≡ suc (t .generation) % 2 → ⊥) → currentAt d b ≡ currentAt m b)
+    → Kept d (suc (t .generation)) (t .working) × (trees (currentAt d) (t .working) ≡ trees (currentAt m) (t .working))
 commit-kept t m d B fits eb ed still ew else′ =
     let g : ℕ = t .generation in
     let same : Same (Reaches (currentAt m) (t .working)) (currentAt m) (currentAt d)
-          = λ b h. (let q : 2 ≤ b = good-inside (blocksOf m) (currentAt m) (t .working) (B .goods) b h in else′ b (λ e. omega arith)) in
+    = λ b h. (let q : 2 ≤ b = good-inside (blocksOf m) (currentAt m) (t .working) (B .goods) b h in else′ b (λ e. omega arith)) in
     let gs : Goods (blocksOf d) (currentAt d) (t .working) = subst (λ n. Goods n (currentAt d) (t .working)) (sym eb) (good-same (blocksOf m) (currentAt m) (currentAt d) (t .working) same (B .goods)) in
-    let par : suc (suc g) % 2 ≡ g % 2 = omega arith in
-    (record {
-      sized = ap₂ sizes eb ed ∙ B .kept .sized;
-      still = λ b h. still b;
-      len = B .len;
-      goods = gs;
-      fits = fits;
-      slot = ap (λ c. slotIn (blocksOf d) (suc g % 2) c) ew ∙ slot-law (blocksOf d) (m .width) (suc g) (currentAt d) (t .working) (ap (λ n. sizes n (m .width)) eb ∙ B .kept .sized) (B .len) gs fits;
-      older = g;
-      olderTable = t .committed;
-      before = refl;
-      otherSlot = ap (λ n. slotIn (blocksOf d) n (currentAt d n)) par ∙ ap₂ (λ n c. slotIn n (g % 2) c) eb (else′ (g % 2) (λ e. omega arith)) ∙ B .kept .slot;
-    }, trees-same (currentAt m) (currentAt d) (t .working) same)
+    let par : suc (suc g) % 2 ≡ g % 2 = omega arith in (
+      record {
+        sized = ap₂ sizes eb ed ∙ B .kept .sized;
+        still = λ b h. still b;
+        len = B .len;
+        goods = gs;
+        fits = fits;
+        slot = ap (λ c. slotIn (blocksOf d) (suc g % 2) c) ew ∙ slot-law (blocksOf d) (m .width) (suc g) (currentAt d) (t .working) (ap (λ n. sizes n (m .width)) eb ∙ B .kept .sized) (B .len) gs fits;
+        older = g;
+        olderTable = t .committed;
+        before = refl;
+        otherSlot = ap (λ n. slotIn (blocksOf d) n (currentAt d n)) par ∙ ap₂ (λ n c. slotIn n (g % 2) c) eb (else′ (g % 2) (λ e. omega arith)) ∙ B .kept .slot;
+      },
+      trees-same (currentAt m) (currentAt d) (t .working) same,
+    )
 
 abbrev slotOp : Tables → Meaning → Op
 slotOp t m = write (suc (t .generation) % 2) (slotWords (m .width) (suc (t .generation)) (t .working))
@@ -337,68 +351,82 @@ slot-there : (m : Meaning) (g : ℕ) → sizes (blocksOf m) (m .width) ≡ true 
 slot-there m g z = let p = sizes-parts (blocksOf m) (m .width) z .0 in omega arith
 
 finish-kept : (t : Tables) (m : Meaning) → Base t m → suc (t .generation) ≤ 268435455
-  → Kept (replay (slotOp t m ∷ flush ∷ []) m) (suc (t .generation)) (t .working) × (trees (currentAt (replay (slotOp t m ∷ flush ∷ []) m)) (t .working) ≡ trees (currentAt m) (t .working))
+    → Kept (replay (slotOp t m ∷ flush ∷ []) m) (suc (t .generation)) (t .working) × (trees (currentAt (replay (slotOp t m ∷ flush ∷ []) m)) (t .working) ≡ trees (currentAt m) (t .working))
 finish-kept t m B fits =
     let s : ℕ = suc (t .generation) % 2 in
     let ws : List ℕ = slotWords (m .width) (suc (t .generation)) (t .working) in
     commit-kept t m (replay (slotOp t m ∷ flush ∷ []) m) B fits (blocks-replay (slotOp t m ∷ flush ∷ []) m) refl (λ b. ap (λ c. c .mark) (flush-at (written m s ws) b))
-      (ap (λ c. c .current) (flush-at (written m s ws) s) ∙ ap (λ c. c .current) (write-at m s ws (slot-there m (suc (t .generation)) (B .kept .sized))))
-      (λ b e. ap (λ c. c .current) (flush-at (written m s ws) b) ∙ ap (λ c. c .current) (write-off m s b ws e))
+    (ap (λ c. c .current) (flush-at (written m s ws) s) ∙ ap (λ c. c .current) (write-at m s ws (slot-there m (suc (t .generation)) (B .kept .sized))))
+    (λ b e. ap (λ c. c .current) (flush-at (written m s ws) b) ∙ ap (λ c. c .current) (write-off m s b ws e))
 
 finish-fine : (t : Tables) (m : Meaning) → Base t m → suc (t .generation) ≤ 268435455 → Fine (finished (modelOf t m)) (mounted (finishedTables t)) (replay (slotOp t m ∷ flush ∷ []) m)
 unfolding Fine
 finish-fine t m B fits =
     let K = finish-kept t m B fits in
-    let d : Meaning = replay (slotOp t m ∷ flush ∷ []) m in
-    (record { calm = calm-replay (slotOp t m ∷ flush ∷ []) m (B .calm); kept = K .0; len = K .0 .len; goods = K .0 .goods },
-     λ i. record { working = K .1 i; committed = K .1 i; generation = suc (t .generation); blocks = blocks-replay (slotOp t m ∷ flush ∷ []) m i; left = finished (modelOf t m) .left; layer = m .leftMark })
+    let d : Meaning = replay (slotOp t m ∷ flush ∷ []) m in (
+      record { calm = calm-replay (slotOp t m ∷ flush ∷ []) m (B .calm); kept = K .0; len = K .0 .len; goods = K .0 .goods },
+      λ i. record { working = K .1 i; committed = K .1 i; generation = suc (t .generation); blocks = blocks-replay (slotOp t m ∷ flush ∷ []) m i; left = finished (modelOf t m) .left; layer = m .leftMark },
+    )
 
 -- power fails between the write and the flush
 torn-fine : (t : Tables) (m : Meaning) (κ : Cutting) → Base t m → ((b : ℕ) → cellAt m b .mark ≡ 0) → suc (t .generation) ≤ 268435455
-  → Fine (cutModel κ (landed (κ .choice (suc (t .generation) % 2)) (modelOf t m))) down (cut κ (apply (slotOp t m) m))
+    → Fine (cutModel κ (landed (κ .choice (suc (t .generation) % 2)) (modelOf t m))) down (cut κ (apply (slotOp t m) m))
 unfolding Fine
 torn-fine t m κ B still fits = go (κ .choice s) refl
   where
     s : ℕ
     s = suc (t .generation) % 2
+
     ws : List ℕ
     ws = slotWords (m .width) (suc (t .generation)) (t .working)
+
     d : Meaning
     d = cut κ (apply (slotOp t m) m)
+
     there : s < blocksOf m
     there = slot-there m (suc (t .generation)) (B .kept .sized)
+
     eb : blocksOf d ≡ blocksOf m
     eb = cut-blocks κ (written m s ws) ∙ blocks-apply (slotOp t m) m
+
     -- elsewhere nothing is written
     off : (b : ℕ) → (b ≡ s → ⊥) → cellAt d b ≡ cellAt m b
     off b ne = cut-at κ (written m s ws) b ∙ ap (cutCell (κ .choice b)) (write-off m s b ws ne) ∙ cut-calm (κ .choice b) (cellAt m b) (still b) (B .calm b (still b))
+
     here : cellAt d s ≡ cutCell (κ .choice s) (writtenCell ws (cellAt m s))
     here = cut-at κ (written m s ws) s ∙ ap (cutCell (κ .choice s)) (write-at m s ws there)
+
     -- the slot is the old one
     at-old : (k : Choice) (c : Cell) → k ≡ old → c .mark ≡ 0 → c .persisted ≡ c .current → cutCell k (writtenCell ws c) ≡ c
     at-old k c e z p =
         let f : remains (min (c .mark + 1) 2) k (writtenCell ws c) ≡ c .persisted = ap₂ (λ n x. remains (min (n + 1) 2) x (writtenCell ws c)) z e in
         λ i. record { persisted = f i; current = (f ∙ p) i; mark = sym z i }
+
     same-old : κ .choice s ≡ old → (b : ℕ) → cellAt d b ≡ cellAt m b
     same-old e b =
         elim (cases-eq b s) [
-          inl q ↦ subst (λ x. cellAt d x ≡ cellAt m x) (sym q) (here ∙ at-old (κ .choice s) (cellAt m s) e (still s) (B .calm s (still s)))
-        | inr ne ↦ off b ne ]
+          | inl q ↦ subst (λ x. cellAt d x ≡ cellAt m x) (sym q) (here ∙ at-old (κ .choice s) (cellAt m s) e (still s) (B .calm s (still s)))
+          | inr ne ↦ off b ne
+        ]
+
     was : κ .choice s ≡ old → Fine (cutModel κ (modelOf t m)) down d
     was e =
         let R : List ℕ = 0 ∷ 1 ∷ Reaches (currentAt m) (t .committed) in
         let ks : Keeps R m d = λ b h. same-old e b in
         (calm-cut κ (written m s ws), (t .generation, t .committed, kept-keeps m d (t .generation) (t .committed) eb refl ks (B .kept), trees-same (currentAt m) (currentAt d) (t .committed) (keeps-in m d (t .committed) ks), refl, eb, refl, refl))
+
     -- the slot is the new one
     at-new : (k : Choice) (c : Cell) → ((k ≡ new) ⊎ ((x : Content) × (k ≡ other x))) → c .mark ≡ 0 → cutCell k (writtenCell ws c) .current ≡ words ws
     at-new k c (inl e) z = ap₂ (λ n x. remains (min (n + 1) 2) x (writtenCell ws c)) z e
     at-new k c (inr e) z = ap₂ (λ n x. remains (min (n + 1) 2) x (writtenCell ws c)) z (e .1)
+
     is : ((κ .choice s ≡ new) ⊎ ((x : Content) × (κ .choice s ≡ other x))) → Fine (cutModel κ (finished (modelOf t m))) down d
     is e =
         let K = commit-kept t m d B fits eb refl (λ b. ap (λ c. c .mark) (cut-at κ (written m s ws) b))
-              (ap (λ c. c .current) here ∙ at-new (κ .choice s) (cellAt m s) e (still s))
-              (λ b q. ap (λ c. c .current) (off b q)) in
+        (ap (λ c. c .current) here ∙ at-new (κ .choice s) (cellAt m s) e (still s))
+        (λ b q. ap (λ c. c .current) (off b q)) in
         (calm-cut κ (written m s ws), (suc (t .generation), t .working, K .0, K .1, refl, eb, refl, refl))
+
     go : (k : Choice) → κ .choice s ≡ k → Fine (cutModel κ (landed k (modelOf t m))) down d
     go old e = was e
     go new e = is (inl e)
@@ -450,11 +478,12 @@ flush-cut t m κ (suc k) B =
 effect-cut : (q : Ask) (t : Tables) (m : Meaning) (os : List Op) (w′ : Mode) (m′ : Meaning) (k : ℕ) (κ : Cutting) → Base t m → Effect t m q os w′ m′ → Fine (cutModel κ (modelOf t m)) down (cut κ (replay (take k os) m))
 effect-cut q t m os w′ m′ k κ B E =
     elim (effect-ops q t m os w′ m′ E) [
-      inl e ↦ subst (λ x. Fine (cutModel κ (modelOf t m)) down (cut κ (replay (take k x) m))) (sym e) (flush-cut t m κ k B)
-    | inr f ↦ free-cut t m (take k os) κ B (each-take (FreeWrite t m) k os f) ]
+      | inl e ↦ subst (λ x. Fine (cutModel κ (modelOf t m)) down (cut κ (replay (take k x) m))) (sym e) (flush-cut t m κ k B)
+      | inr f ↦ free-cut t m (take k os) κ B (each-take (FreeWrite t m) k os f)
+    ]
 
 finish-cut : (t : Tables) (m : Meaning) (k : ℕ) (κ : Cutting) → Base t m → ((b : ℕ) → cellAt m b .mark ≡ 0) → suc (t .generation) ≤ 268435455
-  → Fine (cutModel κ (broken (modelOf t m) finish k κ)) down (cut κ (replay (take k (slotOp t m ∷ flush ∷ [])) m))
+    → Fine (cutModel κ (broken (modelOf t m) finish k κ)) down (cut κ (replay (take k (slotOp t m ∷ flush ∷ [])) m))
 unfolding Fine
 finish-cut t m zero κ B still fits = idle-cut (modelOf t m) κ (mounted t) m (B, refl)
 finish-cut t m (suc zero) κ B still fits = torn-fine t m κ B still fits
@@ -464,41 +493,42 @@ finish-cut t m (suc (suc k)) κ B still fits =
 
 module _ (V : Type 0) (join : ℕ → Map → V) where
   mounts-fine : (M : Model) (m : Meaning) (g : ℕ) (t : Table) (a : Answer V) (os : List Op) (w′ : Mode) (m′ : Meaning)
-    → Calm m → Kept m g t → trees (currentAt m) t ≡ M .committed → g ≡ M .generation → blocksOf m ≡ M .blocks → m .left ≡ M .left → m .leftMark ≡ M .layer → m′ ≡ replay os m → Mounts V join m a os w′
-    → (a ≡ done) × Fine (working≔ M (M .committed)) w′ m′
+      → Calm m → Kept m g t → trees (currentAt m) t ≡ M .committed → g ≡ M .generation → blocksOf m ≡ M .blocks → m .left ≡ M .left → m .leftMark ≡ M .layer → m′ ≡ replay os m → Mounts V join m a os w′
+      → (a ≡ done) × Fine (working≔ M (M .committed)) w′ m′
   unfolding Fine
   mounts-fine M m g t a os w′ m′ calm K ec eg eb el ey em H =
       let h : (a ≡ done) × (w′ ≡ mounted (fresh (g, t)))
-            = subst (λ o. elim o as (λ _. Type 0) [ Ok x ↦ (a ≡ done) × (w′ ≡ mounted (fresh x)) | Err r ↦ (a ≡ refused r) × (w′ ≡ down) ]) (found-kept m g t K) (H .1) in
+      = subst (λ o. elim o as (λ _. Type 0) [ Ok x ↦ (a ≡ done) × (w′ ≡ mounted (fresh x)) | Err r ↦ (a ≡ refused r) × (w′ ≡ down) ]) (found-kept m g t K) (H .1) in
       let base : Base (fresh (g, t)) m = record { calm = calm; kept = K; len = K .len; goods = K .goods } in
       (h .0, quiet-fine (working≔ M (M .committed)) (mounted (fresh (g, t))) w′ m m′ os em (H .0, h .1) (base, λ i. record { working = ec i; committed = ec i; generation = eg i; blocks = eb i; left = el i; layer = ey i }))
 
   ask-fine : (q : Ask) (t : Tables) (m : Meaning) (a : Answer V) (os : List Op) (w′ : Mode) (m′ : Meaning) → Base t m → m′ ≡ replay os m → Does V join (mounted t) m (ask q) a os w′ m′
-    → (a ≡ reply V join (modelOf t m) (ask q)) × Fine (next (modelOf t m) (ask q)) w′ m′
+      → (a ≡ reply V join (modelOf t m) (ask q)) × Fine (next (modelOf t m) (ask q)) w′ m′
   unfolding Fine
   ask-fine q t m a os w′ m′ B em D = go (refusal (shape t m) q) refl D
     where
       M : Model
       M = modelOf t m
+
       go : (o : Option Refusal) → refusal (shape t m) q ≡ o
-        → elim o as (λ _. Type 0) [ Some r ↦ (a ≡ refused r) × Quiet (mounted t) os w′ | None ↦ (a ≡ answer V join (mapsOf (M .working)) q) × Effect t m q os w′ m′ ]
-        → (a ≡ elim o as (λ _. Answer V) [ Some r ↦ refused r | None ↦ answer V join (mapsOf (M .working)) q ]) × Fine (elim o as (λ _. Model) [ Some r ↦ M | None ↦ after M q ]) w′ m′
+          → elim o as (λ _. Type 0) [ Some r ↦ (a ≡ refused r) × Quiet (mounted t) os w′ | None ↦ (a ≡ answer V join (mapsOf (M .working)) q) × Effect t m q os w′ m′ ]
+          → (a ≡ elim o as (λ _. Answer V) [ Some r ↦ refused r | None ↦ answer V join (mapsOf (M .working)) q ]) × Fine (elim o as (λ _. Model) [ Some r ↦ M | None ↦ after M q ]) w′ m′
       go (Some r) e D = (D .0, quiet-fine M (mounted t) w′ m m′ os em (D .1) (B, refl))
       go None e D = (D .0, effect-fine q t m os w′ m′ B em e (D .1))
 
   ask-cut : (q : Ask) (t : Tables) (m : Meaning) (a : Answer V) (os : List Op) (w′ : Mode) (m′ : Meaning) (k : ℕ) (κ : Cutting) → Base t m → Does V join (mounted t) m (ask q) a os w′ m′
-    → Fine (cutModel κ (modelOf t m)) down (cut κ (replay (take k os) m))
+      → Fine (cutModel κ (modelOf t m)) down (cut κ (replay (take k os) m))
   unfolding Fine
   ask-cut q t m a os w′ m′ k κ B D = go (refusal (shape t m) q) D
     where
       go : (o : Option Refusal)
-        → elim o as (λ _. Type 0) [ Some r ↦ (a ≡ refused r) × Quiet (mounted t) os w′ | None ↦ (a ≡ answer V join (mapsOf (modelOf t m .working)) q) × Effect t m q os w′ m′ ]
-        → Fine (cutModel κ (modelOf t m)) down (cut κ (replay (take k os) m))
+          → elim o as (λ _. Type 0) [ Some r ↦ (a ≡ refused r) × Quiet (mounted t) os w′ | None ↦ (a ≡ answer V join (mapsOf (modelOf t m .working)) q) × Effect t m q os w′ m′ ]
+          → Fine (cutModel κ (modelOf t m)) down (cut κ (replay (take k os) m))
       go (Some r) D = quiet-cut (modelOf t m) κ (mounted t) m os k (D .1 .0) (B, refl)
       go None D = effect-cut q t m os w′ m′ k κ B (D .1)
 
   pub step-fine : (w : Mode) (c : Call) (M : Model) (m : Meaning) (a : Answer V) (os : List Op) (w′ : Mode) (m′ : Meaning) → Fine M w m → Step V join w m c a os w′ m′
-    → (a ≡ reply V join M c) × Fine (next M c) w′ m′
+      → (a ≡ reply V join M c) × Fine (next M c) w′ m′
   unfolding Fine
   step-fine (mounted t) (ask q) M m a os w′ m′ f S =
       subst (λ x. (a ≡ reply V join x (ask q)) × Fine (next x (ask q)) w′ m′) (f .1) (ask-fine q t m a os w′ m′ (f .0) (S .0) (S .1))
@@ -518,7 +548,7 @@ module _ (V : Type 0) (join : ℕ → Map → V) where
   step-fine down mount M m a os w′ m′ f S = mounts-fine M m (f .1 .0) (f .1 .1) a os w′ m′ (f .0) (f .1 .2) (f .1 .3) (f .1 .4) (f .1 .5) (f .1 .6) (f .1 .7) (S .0) (S .1)
 
   pub broke-fine : (w : Mode) (c : Call) (M : Model) (m : Meaning) (a : Answer V) (os : List Op) (w′ : Mode) (m′ : Meaning) (k : ℕ) (κ : Cutting) → Fine M w m → Step V join w m c a os w′ m′
-    → Fine (cutModel κ (broken M c k κ)) down (cut κ (replay (take k os) m))
+      → Fine (cutModel κ (broken M c k κ)) down (cut κ (replay (take k os) m))
   unfolding Fine
   broke-fine (mounted t) (ask q) M m a os w′ m′ k κ f S = subst (λ x. Fine (cutModel κ x) down (cut κ (replay (take k os) m))) (f .1) (ask-cut q t m a os w′ m′ k κ (f .0) (S .1))
   broke-fine (mounted t) finish M m a os w′ m′ k κ f S = absurd (S .1)
@@ -527,7 +557,7 @@ module _ (V : Type 0) (join : ℕ → Map → V) where
   broke-fine (sealed t) (ask q) M m a os w′ m′ k κ f S = absurd (S .1)
   broke-fine (sealed t) finish M m a os w′ m′ k κ f S =
       subst (λ x. Fine (cutModel κ (broken M finish k κ)) down (cut κ (replay (take k x) m))) (sym (S .1 .1))
-        (subst (λ x. Fine (cutModel κ (broken x finish k κ)) down (cut κ (replay (take k (slotOp t m ∷ flush ∷ [])) m))) (f .3) (finish-cut t m k κ (f .0) (f .1) (f .2)))
+      (subst (λ x. Fine (cutModel κ (broken x finish k κ)) down (cut κ (replay (take k (slotOp t m ∷ flush ∷ [])) m))) (f .3) (finish-cut t m k κ (f .0) (f .1) (f .2)))
   broke-fine (sealed t) reopen M m a os w′ m′ k κ f S = quiet-cut M κ (sealed t) m os k (S .1 .1 .0) f
   broke-fine (sealed t) mount M m a os w′ m′ k κ f S = absurd (S .1)
   broke-fine down (ask q) M m a os w′ m′ k κ f S = absurd (S .1)
@@ -548,12 +578,17 @@ module _ (V : Type 0) (join : ℕ → Map → V) where
   unfolding Fine
   formatted-fine m f =
       let kept : Kept m 1 blank = record {
-            sized = f .0;
-            still = λ b h. f .1 b; len = refl; goods = tt; fits = lit≤ tt;
-            slot = ap (λ c. slotIn (blocksOf m) 1 c) (f .4) ∙ slot-law (blocksOf m) (m .width) 1 (currentAt m) blank (f .0) refl tt (lit≤ tt);
-            older = 0; olderTable = blank; before = refl;
-            otherSlot = ap (λ c. slotIn (blocksOf m) 0 c) (f .3) ∙ slot-law (blocksOf m) (m .width) 0 (currentAt m) blank (f .0) refl tt (lit≤ tt);
-          } in
+        sized = f .0;
+        still = λ b h. f .1 b;
+        len = refl;
+        goods = tt;
+        fits = lit≤ tt;
+        slot = ap (λ c. slotIn (blocksOf m) 1 c) (f .4) ∙ slot-law (blocksOf m) (m .width) 1 (currentAt m) blank (f .0) refl tt (lit≤ tt);
+        older = 0;
+        olderTable = blank;
+        before = refl;
+        otherSlot = ap (λ c. slotIn (blocksOf m) 0 c) (f .3) ∙ slot-law (blocksOf m) (m .width) 0 (currentAt m) blank (f .0) refl tt (lit≤ tt);
+      } in
       (record { calm = f .2; kept = kept; len = refl; goods = tt }, refl)
 
 pub refines : (V : Type 0) → Refines V

@@ -46,30 +46,36 @@ module _ (t : Tables) (m : Meaning) (B : Base t m) where
       let R = s .rooted in
       let r : Root = R .root in
       subst (Stored c) (sym (R .tree))
-        (stored-same (currentAt m) c (treeAt (currentAt m) r) (λ b q. h b (in-working t m b (spot-reach (currentAt m) (t .working) n r b (R .spot) q))) (R .good .stored))
+      (stored-same (currentAt m) c (treeAt (currentAt m) r) (λ b q. h b (in-working t m b (spot-reach (currentAt m) (t .working) n r b (R .spot) q))) (R .good .stored))
 
   abbrev Can : Ask → Type 0
   Can q = (os : List Op) × (w′ : Mode) × Effect t m q os w′ (replay os m)
 
   can-remove : (n s : ℕ) → refusal (shape t m) (remove n s) ≡ None → (k : Bool) → holds (shape t m) n s ≡ k
-    → (os : List Op) × (w′ : Mode) × cond k (Changed t m n (takes s) os w′ (replay os m)) (Quiet (mounted t) os w′)
+      → (os : List Op) × (w′ : Mode) × cond k (Changed t m n (takes s) os w′ (replay os m)) (Quiet (mounted t) os w′)
   can-remove n s e true h =
-      let S = remove-start t m (B .kept .sized) (B .goods) n s e h in
-      (script t m B n (takes s), mounted (placed t (set (t .working) n (Some (rootOf (newTree (modelOf t m) n (takes s)))))),
-       met t m B n (takes s) (S .room) (remove-fit t m (B .kept .sized) (B .goods) n s e h) (still-stored n (takes s) S))
+      let S = remove-start t m (B .kept .sized) (B .goods) n s e h in (
+        script t m B n (takes s),
+        mounted (placed t (set (t .working) n (Some (rootOf (newTree (modelOf t m) n (takes s)))))),
+        met t m B n (takes s) (S .room) (remove-fit t m (B .kept .sized) (B .goods) n s e h) (still-stored n (takes s) S),
+      )
   can-remove n s e false h = ([], mounted t, (refl, refl))
 
   can : (q : Ask) → refusal (shape t m) q ≡ None → Can q
-  can (create n) e =
-      (script t m B n begin, mounted (placed t (set (t .working) n (Some (rootOf (newTree (modelOf t m) n begin))))),
-       met t m B n begin (enough t m (B .kept .sized) (B .goods) n 1 (either-none (early (has (shape t m .working)) (create n)) (late (shape t m) (create n)) e .1))
-         (create-fit t m (B .kept .sized) (B .goods) n e) (λ c h. tt))
+  can (create n) e = (
+    script t m B n begin,
+    mounted (placed t (set (t .working) n (Some (rootOf (newTree (modelOf t m) n begin))))),
+    met t m B n begin (enough t m (B .kept .sized) (B .goods) n 1 (either-none (early (has (shape t m .working)) (create n)) (late (shape t m) (create n)) e .1))
+        (create-fit t m (B .kept .sized) (B .goods) n e) (λ c h. tt),
+  )
   can (clone f n) e = ([], mounted (placed t (set (t .working) n (place (t .working) f))), (refl, refl))
   can (delete n) e = ([], mounted (placed t (set (t .working) n None)), (refl, refl))
   can (put n s a) e =
-      let S = put-start t m (B .kept .sized) (B .goods) n s a e .0 in
-      (script t m B n (puts s (raw a)), mounted (placed t (set (t .working) n (Some (rootOf (newTree (modelOf t m) n (puts s (raw a))))))),
-       met t m B n (puts s (raw a)) (S .room) (put-fit t m (B .kept .sized) (B .goods) n s a e) (still-stored n (puts s (raw a)) S))
+      let S = put-start t m (B .kept .sized) (B .goods) n s a e .0 in (
+        script t m B n (puts s (raw a)),
+        mounted (placed t (set (t .working) n (Some (rootOf (newTree (modelOf t m) n (puts s (raw a))))))),
+        met t m B n (puts s (raw a)) (S .room) (put-fit t m (B .kept .sized) (B .goods) n s a e) (still-stored n (puts s (raw a)) S),
+      )
   can (remove n s) e = can-remove n s e (holds (shape t m) n s) refl
   can (get n s) e = ([], mounted t, (refl, refl))
   can (at n s) e = ([], mounted t, (refl, refl))
@@ -85,8 +91,8 @@ module _ (V : Type 0) (join : ℕ → Map → V) where
   can-ask q t m B = go (refusal (shape t m) q) refl
     where
       go : (o : Option Refusal) → refusal (shape t m) q ≡ o
-        → (a : Answer V) × (os : List Op) × (w′ : Mode) × (m′ : Meaning) × ((m′ ≡ replay os m)
-            × elim o as (λ _. Type 0) [ Some r ↦ (a ≡ refused r) × Quiet (mounted t) os w′ | None ↦ (a ≡ answer V join (mapsOf (modelOf t m .working)) q) × Effect t m q os w′ m′ ])
+          → (a : Answer V) × (os : List Op) × (w′ : Mode) × (m′ : Meaning) × ((m′ ≡ replay os m)
+          × elim o as (λ _. Type 0) [ Some r ↦ (a ≡ refused r) × Quiet (mounted t) os w′ | None ↦ (a ≡ answer V join (mapsOf (modelOf t m .working)) q) × Effect t m q os w′ m′ ])
       go (Some r) e = (refused r, [], mounted t, m, (refl, (refl, (refl, refl))))
       go None e = let y = can t m B q e in (answer V join (mapsOf (modelOf t m .working)) q, y .0, y .1, replay (y .0) m, (refl, (refl, y .2)))
 
@@ -94,7 +100,7 @@ module _ (V : Type 0) (join : ℕ → Map → V) where
   can-mount w m = go (found m) refl
     where
       go : (o : Result (ℕ × Table) Refusal) → found m ≡ o
-        → (a : Answer V) × (os : List Op) × (w′ : Mode) × (m′ : Meaning) × ((m′ ≡ replay os m) × ((os ≡ []) × elim o as (λ _. Type 0) [ Ok x ↦ (a ≡ done) × (w′ ≡ mounted (fresh x)) | Err r ↦ (a ≡ refused r) × (w′ ≡ down) ]))
+          → (a : Answer V) × (os : List Op) × (w′ : Mode) × (m′ : Meaning) × ((m′ ≡ replay os m) × ((os ≡ []) × elim o as (λ _. Type 0) [ Ok x ↦ (a ≡ done) × (w′ ≡ mounted (fresh x)) | Err r ↦ (a ≡ refused r) × (w′ ≡ down) ]))
       go (Ok x) e = (done, [], mounted (fresh x), m, (refl, (refl, (refl, refl))))
       go (Err r) e = (refused r, [], down, m, (refl, (refl, (refl, refl))))
 
@@ -135,9 +141,10 @@ formats m z =
     let m₁ : Meaning = written m 0 s₀ in
     let m₂ : Meaning = written m₁ 1 s₁ in
     let p = sizes-parts (blocksOf m) w z .0 in
-    let b₁ : blocksOf m₁ ≡ blocksOf m = blocks-apply (write 0 s₀) m in
-    (ap (λ n. sizes n w) (blocks-replay (formatting w) m) ∙ z,
-     (λ b. ap (λ c. c .mark) (flush-at m₂ b)),
-     (λ b e. ap (λ c. c .persisted) (flush-at m₂ b) ∙ ap (λ c. c .current) (sym (flush-at m₂ b))),
-     ap (λ c. c .current) (flush-at m₂ 0) ∙ ap (λ c. c .current) (write-off m₁ 1 0 s₁ (λ e. omega arith)) ∙ ap (λ c. c .current) (write-at m 0 s₀ (omega arith)),
-     ap (λ c. c .current) (flush-at m₂ 1) ∙ ap (λ c. c .current) (write-at m₁ 1 s₁ (omega arith)))
+    let b₁ : blocksOf m₁ ≡ blocksOf m = blocks-apply (write 0 s₀) m in (
+      ap (λ n. sizes n w) (blocks-replay (formatting w) m) ∙ z,
+      (λ b. ap (λ c. c .mark) (flush-at m₂ b)),
+      (λ b e. ap (λ c. c .persisted) (flush-at m₂ b) ∙ ap (λ c. c .current) (sym (flush-at m₂ b))),
+      ap (λ c. c .current) (flush-at m₂ 0) ∙ ap (λ c. c .current) (write-off m₁ 1 0 s₁ (λ e. omega arith)) ∙ ap (λ c. c .current) (write-at m 0 s₀ (omega arith)),
+      ap (λ c. c .current) (flush-at m₂ 1) ∙ ap (λ c. c .current) (write-at m₁ 1 s₁ (omega arith)),
+    )

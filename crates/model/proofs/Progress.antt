@@ -82,16 +82,16 @@ module _ (pick : ℕ → ℕ) where
   firsts (suc l) es = go (firsts l) (2 * l) es
     where
       go : ((es : List (ℕ × Pay Ot ℕ l)) → map (λ (z : ℕ × Block). z .0) (items l es) ≡ map pick (collect ℕ ℕ (itsPlace ℕ) l es))
-        → (i : ℕ) (es : List (ℕ × tree.Tree Ot ℕ l)) → map (λ (z : ℕ × Block). z .0) (along (item l) (items l) i (2 * l + 1) es) ≡ map pick (along (itsPlace ℕ l) (collect ℕ ℕ (itsPlace ℕ) l) i (2 * l + 1) es)
+          → (i : ℕ) (es : List (ℕ × tree.Tree Ot ℕ l)) → map (λ (z : ℕ × Block). z .0) (along (item l) (items l) i (2 * l + 1) es) ≡ map pick (along (itsPlace ℕ l) (collect ℕ ℕ (itsPlace ℕ) l) i (2 * l + 1) es)
       go ih i [] = refl
       go ih i ((k, (None, xs)) ∷ r) =
           ap (λ (z : List ℕ). pick i ∷ z) (map-append (λ (z : ℕ × Block). z .0) (items l xs) (along (item l) (items l) (2 * l + 1) (2 * l + 1) r)
-            ∙ ap₂ (λ (x y : List ℕ). x ++ y) (ih xs) (go ih (2 * l + 1) r)
-            ∙ sym (map-append pick (collect ℕ ℕ (itsPlace ℕ) l xs) (along (itsPlace ℕ l) (collect ℕ ℕ (itsPlace ℕ) l) (2 * l + 1) (2 * l + 1) r)))
+          ∙ ap₂ (λ (x y : List ℕ). x ++ y) (ih xs) (go ih (2 * l + 1) r)
+          ∙ sym (map-append pick (collect ℕ ℕ (itsPlace ℕ) l xs) (along (itsPlace ℕ l) (collect ℕ ℕ (itsPlace ℕ) l) (2 * l + 1) (2 * l + 1) r)))
       go ih i ((k, (Some b, xs)) ∷ r) =
           map-append (λ (z : ℕ × Block). z .0) (items l xs) (along (item l) (items l) i (2 * l + 1) r)
-            ∙ ap₂ (λ (x y : List ℕ). x ++ y) (ih xs) (go ih i r)
-            ∙ sym (map-append pick (collect ℕ ℕ (itsPlace ℕ) l xs) (along (itsPlace ℕ l) (collect ℕ ℕ (itsPlace ℕ) l) i (2 * l + 1) r))
+          ∙ ap₂ (λ (x y : List ℕ). x ++ y) (ih xs) (go ih i r)
+          ∙ sym (map-append pick (collect ℕ ℕ (itsPlace ℕ) l xs) (along (itsPlace ℕ l) (collect ℕ ℕ (itsPlace ℕ) l) i (2 * l + 1) r))
 
   fresh-firsts : (r : tree.Root Ot ℕ) → map (λ (z : ℕ × Block). z .0) (fresh r) ≡ map pick (places ℕ r)
   fresh-firsts r =
@@ -123,7 +123,7 @@ module _ (pick : ℕ → ℕ) where
     stand (suc l) es a b = go (stand l) (2 * l) es a b
       where
         go : ((es : List (ℕ × Pay Ot ℕ l)) → Every (All Ot ℕ Q l) es → Each R (items l es) → Every (All ℕ ℕ St l) (numbers ℕ pick l es))
-          → (i : ℕ) (es : List (ℕ × tree.Tree Ot ℕ l)) → Every (All Ot ℕ Q (suc l)) es → Each R (along (item l) (items l) i (2 * l + 1) es) → Every (All ℕ ℕ St (suc l)) (beside pick (numbers ℕ pick l) i (2 * l + 1) es)
+            → (i : ℕ) (es : List (ℕ × tree.Tree Ot ℕ l)) → Every (All Ot ℕ Q (suc l)) es → Each R (along (item l) (items l) i (2 * l + 1) es) → Every (All ℕ ℕ St (suc l)) (beside pick (numbers ℕ pick l) i (2 * l + 1) es)
         go ih i [] a b = tt
         go ih i ((k, (None, xs)) ∷ r) a b =
             let p = each-split R (items l xs) (along (item l) (items l) (2 * l + 1) (2 * l + 1) r) (b .1) in
@@ -206,9 +206,10 @@ on-ops : (w : ℕ) (ys : List (ℕ × Block)) (m : Meaning) → Distinct (firsts
 on-ops w [] m d h = tt
 on-ops w (y ∷ ys) m d h =
     let ws : List ℕ = encode w (y .1) in
-    let m₁ : Meaning = written m (y .0) ws in
-    (ap (λ c. c .current) (off-ops w ys m₁ (y .0) (d .0)) ∙ ap (λ c. c .current) (write-at m (y .0) ws (h .0)),
-     on-ops w ys m₁ (d .1) (each-more ys (blocksOf m) (blocksOf m₁) (blocks-apply (write (y .0) ws) m) (h .1)))
+    let m₁ : Meaning = written m (y .0) ws in (
+      ap (λ c. c .current) (off-ops w ys m₁ (y .0) (d .0)) ∙ ap (λ c. c .current) (write-at m (y .0) ws (h .0)),
+      on-ops w ys m₁ (d .1) (each-more ys (blocksOf m) (blocksOf m₁) (blocks-apply (write (y .0) ws) m) (h .1)),
+    )
 
 -- a sound tree's blocks have words
 getD-pair : (N : ℕ × ℕ → Type 0) (xs : List (ℕ × ℕ)) (i : ℕ) → Each N xs → i < length xs → N (getD xs i (0, 0))
@@ -246,15 +247,17 @@ module _ (n w : ℕ) (small : n ≤ 4096) (wide : 32 ≤ w) where
       leaf : (es : List (ℕ × ℕ)) → Every (All ℕ ℕ Lt zero) es
       leaf [] = tt
       leaf (e ∷ r) = (tt, leaf r)
+
       top : (l hi b : ℕ) → l ≤ 4 → hi ≤ 10000 → (es : List (ℕ × Pay ℕ ℕ l)) → Ascends (Child ℕ ℕ l) hi es → length es ≤ 15 → Every (All ℕ ℕ Inn l) es → Every (Angles l) es → Layout w (blockOf l (b, es))
       top l hi b k h es a f i g =
           record { wide = wide; few = subst (λ z. z ≤ 15) (sym (map-length (payload l) es)) f; low = omega arith; small = λ j q. getD-pair Fits (mapE (payload l) es) j (smalls l hi h es a i g) q }
-  lay (suc l) hi b k h es a f i g =
-      (record { wide = wide; few = subst (λ z. z ≤ 15) (sym (map-length (payload (suc l)) es)) f; low = omega arith; small = λ j q. getD-pair Fits (mapE (payload (suc l)) es) j (smalls (suc l) hi h es a i g) q },
-       go (λ hi b. lay l hi b (omega arith)) hi h es a i g)
+  lay (suc l) hi b k h es a f i g = (
+    record { wide = wide; few = subst (λ z. z ≤ 15) (sym (map-length (payload (suc l)) es)) f; low = omega arith; small = λ j q. getD-pair Fits (mapE (payload (suc l)) es) j (smalls (suc l) hi h es a i g) q },
+    go (λ hi b. lay l hi b (omega arith)) hi h es a i g,
+  )
     where
       go : ((hi b : ℕ) → hi ≤ 10000 → (es : List (ℕ × Pay ℕ ℕ l)) → Ascends (Child ℕ ℕ l) hi es → length es ≤ 15 → Every (All ℕ ℕ Inn l) es → Every (Angles l) es → All ℕ ℕ Lt (suc l) (b, es))
-        → (hi : ℕ) → hi ≤ 10000 → (es : List (ℕ × tree.Tree ℕ ℕ l)) → Ascends (Child ℕ ℕ (suc l)) hi es → Every (All ℕ ℕ Inn (suc l)) es → Every (Angles (suc l)) es → Every (All ℕ ℕ Lt (suc l)) es
+          → (hi : ℕ) → hi ≤ 10000 → (es : List (ℕ × tree.Tree ℕ ℕ l)) → Ascends (Child ℕ ℕ (suc l)) hi es → Every (All ℕ ℕ Inn (suc l)) es → Every (Angles (suc l)) es → Every (All ℕ ℕ Lt (suc l)) es
       go ih hi h [] a i g = tt
       go ih hi h (e ∷ r) a i g =
           let q = next-le (Child ℕ ℕ (suc l)) hi r (a .2) in
@@ -279,7 +282,7 @@ unused-apart : (k b : ℕ) (us : List ℕ) → Distinct (unused k b us)
 unused-apart zero b us = tt
 unused-apart (suc k) b us =
     cond-both (elem b us) _ _ Distinct (λ e. unused-apart k (suc b) us)
-      (λ e. ((λ h. let q = each-at (λ x. (suc b ≤ x) × (x < suc b + k)) (unused k (suc b) us) b (unused-each k (suc b) us) h .0 in omega arith), unused-apart k (suc b) us))
+    (λ e. ((λ h. let q = each-at (λ x. (suc b ≤ x) × (x < suc b + k)) (unused k (suc b) us) b (unused-each k (suc b) us) h .0 in omega arith), unused-apart k (suc b) us))
 
 getD-in : (xs : List ℕ) (i : ℕ) → i < length xs → In (getD xs i 0) xs
 getD-in [] i h = absurd (omega arith)
@@ -357,23 +360,24 @@ module _ (t : Tables) (m : Meaning) (B : Base t m) (n : ℕ) (d : Change ℕ) wh
   firsts-are = fresh-firsts (λ i. getD fs i 0) (changed ℕ d src)
 
   pub met : needed d src ≤ length fs → Fit (blocksOf m) (newTree (modelOf t m) n d) → ((c : ℕ → Content) → ((b : ℕ) → T (elem b (0 ∷ 1 ∷ used (shape t m))) → c b ≡ currentAt m b) → Ready (λ i. getD fs i 0) c d src)
-    → Changed t m n d script (mounted (placed t (set (t .working) n (Some (rootOf (newTree (modelOf t m) n d)))))) (replay script m)
+      → Changed t m n d script (mounted (placed t (set (t .working) n (Some (rootOf (newTree (modelOf t m) n d)))))) (replay script m)
   unfolding changedOn
   met room F ready =
       let r : tree.Root Ot ℕ = changed ℕ d src in
       let low : (p : ℕ) → In p (places ℕ r) → p < length fs = λ p h. (let q = places-low (r .0) (r .1 .0) (r .1 .1) p h in let k = changed-low ℕ d src in omega arith) in
       let apart : Distinct (firsts-of ys) = subst Distinct (sym firsts-are) (map-apart fs (places ℕ r) (changed-apart d src) low (unused-apart (blocksOf m - 2) 2 (used (shape t m)))) in
       let nice : Each Nice (firsts-of ys)
-            = subst (Each Nice) (sym firsts-are) (each-in Nice (newBlocks d fs src) (λ b h. let z = in-map fs (places ℕ r) b h in subst Nice (sym (z .2)) (each-at Nice fs (getD fs (z .0) 0) free-nice (getD-in fs (z .0) (low (z .0) (z .1)))))) in
+      = subst (Each Nice) (sym firsts-are) (each-in Nice (newBlocks d fs src) (λ b h. let z = in-map fs (places ℕ r) b h in subst Nice (sym (z .2)) (each-at Nice fs (getD fs (z .0) 0) free-nice (getD-in fs (z .0) (low (z .0) (z .1)))))) in
       let frees : Each (FreeWrite t m) script = each-ops Nice (FreeWrite t m) (λ b ws k. k) (m .width) ys nice in
       let c : ℕ → Content = currentAt (replay script m) in
       let small : Each (λ (y : ℕ × Block). y .0 < blocksOf m) ys = each-in (λ (y : ℕ × Block). y .0 < blocksOf m) ys (λ y h. each-at (λ (y : ℕ × Block). Nice (y .0)) ys y (each-firsts Nice ys nice) h .1) in
       let sz = sizes-parts (blocksOf m) (m .width) (B .kept .sized) in
       let laid : Each (λ (y : ℕ × Block). Layout (m .width) (y .1)) ys
-            = fresh-keep (λ i. getD fs i 0) (λ l v. Layout (m .width) (blockOf l v)) (λ (y : ℕ × Block). Layout (m .width) (y .1)) (λ l v z. z) (r .0) (r .1 .0) (r .1 .1)
-                (fit-layouts (blocksOf m) (m .width) (sz .1) (sz .2) (newTree (modelOf t m) n d) F) in
-      (frees,
-       (λ b. ap (occ b) (targets-ops (m .width) ys ∙ firsts-are)),
-       refl,
-       stands (λ i. getD fs i 0) c d src (ready c (λ b h. ap (λ x. x .current) (keeps-free t m script frees b h)))
-         (decoded (m .width) c ys (on-ops (m .width) ys m apart small) laid))
+      = fresh-keep (λ i. getD fs i 0) (λ l v. Layout (m .width) (blockOf l v)) (λ (y : ℕ × Block). Layout (m .width) (y .1)) (λ l v z. z) (r .0) (r .1 .0) (r .1 .1)
+      (fit-layouts (blocksOf m) (m .width) (sz .1) (sz .2) (newTree (modelOf t m) n d) F) in (
+        frees,
+        (λ b. ap (occ b) (targets-ops (m .width) ys ∙ firsts-are)),
+        refl,
+        stands (λ i. getD fs i 0) c d src (ready c (λ b h. ap (λ x. x .current) (keeps-free t m script frees b h)))
+            (decoded (m .width) c ys (on-ops (m .width) ys m apart small) laid),
+      )

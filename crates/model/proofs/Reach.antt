@@ -75,11 +75,11 @@ module _ (c : ℕ → Content) (h : ℕ → ℕ) where
       none (e ∷ r) k = none r k
   down (suc l) t a r b q =
       ⊎-elim (λ e. subst (Reached g h) (sym e) r)
-        (λ k. go (down l) (t .1) (a .1) (kids-reached l (t .1) (λ x i. child r (subst (λ o. 0 < occ x (kidsOf o)) (sym (a .0)) (in-occ x (numbersIn l (t .1)) i)))) k)
-        (elem-head b (t .0) (flat (λ k x. Marks ℕ ℕ (suc l) x) (t .1)) q)
+      (λ k. go (down l) (t .1) (a .1) (kids-reached l (t .1) (λ x i. child r (subst (λ o. 0 < occ x (kidsOf o)) (sym (a .0)) (in-occ x (numbersIn l (t .1)) i)))) k)
+      (elem-head b (t .0) (flat (λ k x. Marks ℕ ℕ (suc l) x) (t .1)) q)
     where
       go : ((t : tree.Tree ℕ ℕ l) → All ℕ ℕ St (suc l) t → Reached g h (t .0) → (b : ℕ) → T (elem b (Marks ℕ ℕ (suc l) t)) → Reached g h b)
-        → (es : List (ℕ × tree.Tree ℕ ℕ l)) → Every (All ℕ ℕ St (suc l)) es → Every (λ (t : tree.Tree ℕ ℕ l). Reached g h (t .0)) es → T (elem b (flat (λ k x. Marks ℕ ℕ (suc l) x) es)) → Reached g h b
+          → (es : List (ℕ × tree.Tree ℕ ℕ l)) → Every (All ℕ ℕ St (suc l)) es → Every (λ (t : tree.Tree ℕ ℕ l). Reached g h (t .0)) es → T (elem b (flat (λ k x. Marks ℕ ℕ (suc l) x) es)) → Reached g h b
       go ih [] a r k = absurd k
       go ih (e ∷ es) a r k = ⊎-elim (λ u. ih (e .1) (a .0) (r .0) b u) (λ u. go ih es (a .1) (r .1) u) (elem-cases b (Marks ℕ ℕ (suc l) (e .1)) (flat (λ k x. Marks ℕ ℕ (suc l) x) es) k)
 
@@ -99,11 +99,11 @@ module _ (c : ℕ → Content) (h : ℕ → ℕ) where
   closed (suc l) t a x b q k =
       let below : List ℕ = flat (λ k x. Marks ℕ ℕ (suc l) x) (t .1) in
       elem-right b (t .0 ∷ []) below
-        (⊎-elim (λ e. kid-marks l (t .1) b (occ-in b (numbersIn l (t .1)) (subst (λ o. 0 < occ b (kidsOf o)) (ap g e ∙ a .0) k)))
-          (λ u. go (closed l) (t .1) (a .1) u) (elem-head x (t .0) below q))
+      (⊎-elim (λ e. kid-marks l (t .1) b (occ-in b (numbersIn l (t .1)) (subst (λ o. 0 < occ b (kidsOf o)) (ap g e ∙ a .0) k)))
+      (λ u. go (closed l) (t .1) (a .1) u) (elem-head x (t .0) below q))
     where
       go : ((t : tree.Tree ℕ ℕ l) → All ℕ ℕ St (suc l) t → (x b : ℕ) → T (elem x (Marks ℕ ℕ (suc l) t)) → 0 < occ b (kidsOf (g x)) → T (elem b (Marks ℕ ℕ (suc l) t)))
-        → (es : List (ℕ × tree.Tree ℕ ℕ l)) → Every (All ℕ ℕ St (suc l)) es → T (elem x (flat (λ k x. Marks ℕ ℕ (suc l) x) es)) → T (elem b (flat (λ k x. Marks ℕ ℕ (suc l) x) es))
+          → (es : List (ℕ × tree.Tree ℕ ℕ l)) → Every (All ℕ ℕ St (suc l)) es → T (elem x (flat (λ k x. Marks ℕ ℕ (suc l) x) es)) → T (elem b (flat (λ k x. Marks ℕ ℕ (suc l) x) es))
       go ih [] a u = absurd u
       go ih (e ∷ r) a u =
           let A : List ℕ = Marks ℕ ℕ (suc l) (e .1) in
@@ -130,7 +130,7 @@ module _ (c : ℕ → Content) (h : ℕ → ℕ) where
   table-down n (None ∷ t) G k b q = table-down n t G k b q
   table-down n (Some r ∷ t) G k b q =
       ⊎-elim (λ u. down (treeAt c r .0) (treeAt c r .1) (G .0 .stored) (subst (Reached g h) (sym (root-is r)) (k (r .1) (inl refl))) b (of-form r b u))
-        (λ u. table-down n t (G .1) (λ x i. k x (inr i)) b u) (elem-cases b (reach (form (treeAt c r))) (Reaches c t) q)
+      (λ u. table-down n t (G .1) (λ x i. k x (inr i)) b u) (elem-cases b (reach (form (treeAt c r))) (Reaches c t) q)
 
   table-up : (n : ℕ) (t : Table) → Goods n c t → (x b : ℕ) → T (elem x (Reaches c t)) → 0 < occ b (kidsOf (g x)) → T (elem b (Reaches c t))
   table-up n [] G x b q k = absurd q
@@ -138,7 +138,7 @@ module _ (c : ℕ → Content) (h : ℕ → ℕ) where
   table-up n (Some r ∷ t) G x b q k =
       let A : List ℕ = reach (form (treeAt c r)) in
       ⊎-elim (λ u. elem-left b A (Reaches c t) (to-form r b (closed (treeAt c r .0) (treeAt c r .1) (G .0 .stored) x b (of-form r x u) k)))
-        (λ u. elem-right b A (Reaches c t) (table-up n t (G .1) x b u k)) (elem-cases x A (Reaches c t) q)
+      (λ u. elem-right b A (Reaches c t) (table-up n t (G .1) x b u k)) (elem-cases x A (Reaches c t) q)
 
   table-roots : (t : Table) (b : ℕ) → In b (rootsOf t) → T (elem b (Reaches c t))
   table-roots [] b i = absurd i
@@ -160,10 +160,10 @@ module _ (t : Tables) (m : Meaning) (S : Standing t m) where
   unfolding blockAt
   used-to b (root k) =
       ⊎-elim (λ i. elem-left b W C (table-roots c (rootings t) (t .working) b i)) (λ i. elem-right b W C (table-roots c (rootings t) (t .committed) b i))
-        (in-app b (rootsOf (t .working)) (rootsOf (t .committed)) (occ-in b (rootsOf (t .working) ++ rootsOf (t .committed)) k))
+      (in-app b (rootsOf (t .working)) (rootsOf (t .committed)) (occ-in b (rootsOf (t .working) ++ rootsOf (t .committed)) k))
   used-to b (child {x} r k) =
       ⊎-elim (λ u. elem-left b W C (table-up c (rootings t) (blocksOf m) (t .working) (S .0) x b u k)) (λ u. elem-right b W C (table-up c (rootings t) (blocksOf m) (t .committed) (S .1) x b u k))
-        (elem-cases x W C (used-to x r))
+      (elem-cases x W C (used-to x r))
 
   rooted : (b : ℕ) → In b (rootsOf (t .working) ++ rootsOf (t .committed)) → Reached (blockAt m) (rootings t) b
   rooted b i = root (in-occ b (rootsOf (t .working) ++ rootsOf (t .committed)) i)
@@ -172,8 +172,8 @@ module _ (t : Tables) (m : Meaning) (S : Standing t m) where
   unfolding blockAt
   used-from b q =
       ⊎-elim (λ u. table-down c (rootings t) (blocksOf m) (t .working) (S .0) (λ x i. rooted x (in-left x (rootsOf (t .working)) (rootsOf (t .committed)) i)) b u)
-        (λ u. table-down c (rootings t) (blocksOf m) (t .committed) (S .1) (λ x i. rooted x (in-right x (rootsOf (t .working)) (rootsOf (t .committed)) i)) b u)
-        (elem-cases b W C q)
+      (λ u. table-down c (rootings t) (blocksOf m) (t .committed) (S .1) (λ x i. rooted x (in-right x (rootsOf (t .working)) (rootsOf (t .committed)) i)) b u)
+      (elem-cases b W C q)
 
 pub use-is-reach : Use-is-reach
 use-is-reach t m S b = (used-to t m S b, used-from t m S b)
@@ -196,7 +196,7 @@ pub free-by-counts : Free-by-counts
 free-by-counts t m cs S c e =
     let h = alive-is-reached (blockAt m) cs (rootings t) c in
     same-spare (blocksOf m - 2) 2 (used (shape t m)) cs
-      (λ x. same-test (elem x (used (shape t m))) (ltb 0 (getD cs x 0))
-        (λ q. lt-ltb 0 (getD cs x 0) (h x .1 (used-from t m S x (subst T (sym q) tt))))
-        (λ q. to-true (elem x (used (shape t m))) (used-to t m S x (h x .0 (ltb-true 0 (getD cs x 0) q)))))
+    (λ x. same-test (elem x (used (shape t m))) (ltb 0 (getD cs x 0))
+    (λ q. lt-ltb 0 (getD cs x 0) (h x .1 (used-from t m S x (subst T (sym q) tt))))
+    (λ q. to-true (elem x (used (shape t m))) (used-to t m S x (h x .0 (ltb-true 0 (getD cs x 0) q)))))
     ∙ ap (λ n. spare (n - 2) 2 cs) (sym e)

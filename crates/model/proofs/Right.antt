@@ -86,7 +86,7 @@ plain-grown M n d rs e =
     ap (workingP (plainM M)) (maps-set (M .working) n (standing (newTree M n d)) ∙ ap (λ (x : Map). set (mapsOf (M .working)) n (Some x)) e)
 
 plain-removed : (M : Model) (n s : ℕ) (k : Bool) (o : Option ℤ) → k ≡ isSome o → (k ≡ true → rowsOf (newTree M n (takes s)) ≡ del s (mapAt (mapsOf (M .working)) n))
-  → plainM (cond k (withChange M n (takes s)) M) ≡ elim o as (λ _. Plain) [ Some a ↦ workingP (plainM M) (set (mapsOf (M .working)) n (Some (del s (mapAt (mapsOf (M .working)) n)))) | None ↦ plainM M ]
+    → plainM (cond k (withChange M n (takes s)) M) ≡ elim o as (λ _. Plain) [ Some a ↦ workingP (plainM M) (set (mapsOf (M .working)) n (Some (del s (mapAt (mapsOf (M .working)) n)))) | None ↦ plainM M ]
 plain-removed M n s k None e h = ap (λ x. plainM (cond x (withChange M n (takes s)) M)) e
 plain-removed M n s k (Some a) e h =
     ap (λ x. plainM (cond x (withChange M n (takes s)) M)) e ∙ plain-grown M n (takes s) (del s (mapAt (mapsOf (M .working)) n)) (h e)
@@ -101,7 +101,7 @@ plain-after (put n s a) t m B no′ =
 plain-after (remove n s) t m B no′ =
     let M : Model = modelOf t m in
     plain-removed M n s (holds (shapeOf M) n s) (look s (mapAt (mapsOf (M .working)) n)) (holds-find M n s)
-      (λ h. remove-rows t m (B .kept .sized) (B .goods) n s no′ h ∙ ap (del s) (sym (map-at M n)))
+    (λ h. remove-rows t m (B .kept .sized) (B .goods) n s no′ h ∙ ap (del s) (sym (map-at M n)))
 plain-after (get n s) t m B no′ = refl
 plain-after (at n s) t m B no′ = refl
 plain-after (rows n s k) t m B no′ = refl
@@ -113,6 +113,7 @@ plain-ask q t m B = go (refusal (shape t m) q) refl ∙ ap (λ o. elim o as (λ 
   where
     M : Model
     M = modelOf t m
+
     go : (o : Option Refusal) → refusal (shape t m) q ≡ o → plainM (elim o as (λ _. Model) [ Some r ↦ M | None ↦ after M q ]) ≡ elim o as (λ _. Plain) [ Some r ↦ plainM M | None ↦ plain.after (plainM M) q ]
     go (Some r) e = refl
     go None e = plain-after q t m B e
@@ -206,8 +207,8 @@ module _ (V : Type 0) (join : ℕ → Map → V) where
   step-takes (mounted t) (ask q) m a os w′ m′ S = go (refusal (shape t m) q) (S .1)
     where
       go : (o : Option Refusal)
-        → elim o as (λ _. Type 0) [ Some r ↦ (a ≡ refused r) × Quiet (mounted t) os w′ | None ↦ (a ≡ answer V join (mapsOf (modelOf t m .working)) q) × Effect t m q os w′ m′ ]
-        → Takes (mounted t) m (ask q) os
+          → elim o as (λ _. Type 0) [ Some r ↦ (a ≡ refused r) × Quiet (mounted t) os w′ | None ↦ (a ≡ answer V join (mapsOf (modelOf t m .working)) q) × Effect t m q os w′ m′ ]
+          → Takes (mounted t) m (ask q) os
       go (Some r) D = subst (Takes (mounted t) m (ask q)) (sym (D .1 .0)) (none-takes q t m)
       go None D = ask-takes q t m os w′ m′ (D .1)
   step-takes (mounted t) finish m a os w′ m′ S = S .1
@@ -226,17 +227,22 @@ module _ (V : Type 0) (join : ℕ → Map → V) where
   right [] p M w m e f R = subst (λ x. Shows x w m) e (fine-shows w M m f)
   right (did c a os w′ m′ ∷ es) p M w m e f R =
       let s = step-fine V join w c M m a os w′ m′ f (R .0) in
-      let g = fed-same w c M m a os w′ m′ f (R .0) in
-      (subst (λ x. Shows x w m) e (fine-shows w M m f),
-       step-takes w c m a os w′ m′ (R .0),
-       s .0 ∙ plain-reply c M ∙ ap₂ (λ x y. plain.reply V join x c y) e g,
-       right es (plain.next p c (fed w m c)) (next M c) w′ m′ (plain-next w c M m a os w′ m′ f (R .0) ∙ ap₂ (λ x y. plain.next x c y) e g) (s .1) (R .1))
+      let g = fed-same w c M m a os w′ m′ f (R .0) in (
+        subst (λ x. Shows x w m) e (fine-shows w M m f),
+        step-takes w c m a os w′ m′ (R .0),
+        s .0 ∙ plain-reply c M ∙ ap₂ (λ x y. plain.reply V join x c y) e g,
+        right es (plain.next p c (fed w m c)) (next M c) w′ m′ (plain-next w c M m a os w′ m′ f (R .0) ∙ ap₂ (λ x y. plain.next x c y) e g) (s .1) (R .1),
+      )
   right (broke c os k κ ∷ es) p M w m e f R =
-      let s = broke-fine V join w c M m (R .0 .0) os (R .0 .1) (R .0 .2) k κ f (R .0 .3) in
-      (subst (λ x. Shows x w m) e (fine-shows w M m f),
-       step-takes w c m (R .0 .0) os (R .0 .1) (R .0 .2) (R .0 .3),
-       (plainM (broken M c k κ), subst (λ x. Outcome c k x (plainM (broken M c k κ))) e (plain-broken c k κ M),
-        right es (plainM (broken M c k κ)) (cutModel κ (broken M c k κ)) down (cut κ (replay (take k os) m)) refl s (R .1)))
+      let s = broke-fine V join w c M m (R .0 .0) os (R .0 .1) (R .0 .2) k κ f (R .0 .3) in (
+        subst (λ x. Shows x w m) e (fine-shows w M m f),
+        step-takes w c m (R .0 .0) os (R .0 .1) (R .0 .2) (R .0 .3),
+        (
+          plainM (broken M c k κ),
+          subst (λ x. Outcome c k x (plainM (broken M c k κ))) e (plain-broken c k κ M),
+          right es (plainM (broken M c k κ)) (cutModel κ (broken M c k κ)) down (cut κ (replay (take k os) m)) refl s (R .1),
+        ),
+      )
   right (lost κ ∷ es) p M w m e f R =
       (subst (λ x. Shows x w m) e (fine-shows w M m f), right es p (cutModel κ M) down (cut κ m) e (idle-cut M κ w m f) R)
 

@@ -78,10 +78,10 @@ module _ (c d : ℕ → Content) where
       let es : List (ℕ × ℕ) = entriesIn (blockIn (c b)) in
       let below : List ℕ = flat (λ k x. Marks ℕ ℕ l x) (mapE (payAt c l) es) in
       ap (λ (x : List (ℕ × Pay ℕ ℕ l)). (b, x))
-        (ap (λ y. mapE (payAt d l) (entriesIn (blockIn y))) (h b (elem-here b below)) ∙ go (pay-same l) es (λ x q. h x (elem-right x (b ∷ []) below q)))
+      (ap (λ y. mapE (payAt d l) (entriesIn (blockIn y))) (h b (elem-here b below)) ∙ go (pay-same l) es (λ x q. h x (elem-right x (b ∷ []) below q)))
     where
       go : ((p : ℕ) → ((b : ℕ) → T (elem b (Marks ℕ ℕ l (payAt c l p))) → d b ≡ c b) → payAt d l p ≡ payAt c l p)
-        → (es : List (ℕ × ℕ)) → ((x : ℕ) → T (elem x (flat (λ k y. Marks ℕ ℕ l y) (mapE (payAt c l) es))) → d x ≡ c x) → mapE (payAt d l) es ≡ mapE (payAt c l) es
+          → (es : List (ℕ × ℕ)) → ((x : ℕ) → T (elem x (flat (λ k y. Marks ℕ ℕ l y) (mapE (payAt c l) es))) → d x ≡ c x) → mapE (payAt d l) es ≡ mapE (payAt c l) es
       go ih [] h = refl
       go ih (e ∷ r) h =
           let f : List ℕ = Marks ℕ ℕ l (payAt c l (e .1)) in
@@ -134,7 +134,7 @@ module _ (P : Type 0) (N : ℕ → Type 0) where
 pub stored-same : (c d : ℕ → Content) (t : Tree) → ((b : ℕ) → T (elem b (reach t)) → d b ≡ c b) → Stored c t → Stored d t
 stored-same c d t h a =
     all-both ℕ ℕ (λ i u. blockIn (c (u .0)) ≡ Some (blockOf i u)) (λ i u. d (u .0) ≡ c (u .0)) (λ i u. blockIn (d (u .0)) ≡ Some (blockOf i u)) (λ i u p q. ap blockIn q ∙ p) (suc (t .0)) (t .1) a
-      (elem-all ℕ (λ b. d b ≡ c b) (suc (t .0)) (t .1) h)
+    (elem-all ℕ (λ b. d b ≡ c b) (suc (t .0)) (t .1) h)
 
 pub good-one : (n : ℕ) (c d : ℕ → Content) (r : Root) → ((b : ℕ) → T (elem b (reach (treeAt c r))) → d b ≡ c b) → Good n c r → Good n d r
 good-one n c d r h g =
@@ -153,7 +153,7 @@ module _ (P : Type 0) (pick : ℕ → ℕ) (r : tree.Root (Option ℕ) P) where
   number-wf : Wf (Option ℕ) P (r .0) (r .1) → Wf ℕ P (r .0) (numbered P pick r .1)
   number-wf w =
       over-rows ℕ P (Unit {0}) P bare same (numbered P pick r) .2
-        (subst (λ (z : tree.Root (Unit {0}) P). Wf (Unit {0}) P (z .0) (z .1)) (sym (shape-kept P pick r)) (over-rows (Option ℕ) P (Unit {0}) P bare same r .1 w))
+      (subst (λ (z : tree.Root (Unit {0}) P). Wf (Unit {0}) P (z .0) (z .1)) (sym (shape-kept P pick r)) (over-rows (Option ℕ) P (Unit {0}) P bare same r .1 w))
 
   number-rows : rows ℕ P (r .0) (numbered P pick r .1) ≡ rows (Option ℕ) P (r .0) (r .1)
   number-rows =
@@ -284,7 +284,8 @@ grow-fit n d f t h e k F =
     record {
       laid = same-rule ℕ ℕ (changedOn ℕ d f t .0) (changedOn ℕ d f t .1) .0 (grow-wf d f t h w);
       inside = grow-inside n d f t e k (F .inside);
-      angles = subst (Each (λ (r : ℕ × ℕ). r .1 ≤ 18000)) (sym (grow-rows d f t h w)) (done-each d (rows ℕ ℕ (t .0) (t .1)) h (F .angles)) }
+      angles = subst (Each (λ (r : ℕ × ℕ). r .1 ≤ 18000)) (sym (grow-rows d f t h w)) (done-each d (rows ℕ ℕ (t .0) (t .1)) h (F .angles));
+    }
 
 -- an empty leaf is made from nothing
 pub begin-fit : (n : ℕ) (f : List ℕ) (t : Tree) → Each (λ b. (2 ≤ b) × (b < n)) f → 1 ≤ length f → Fit n (changedOn ℕ begin f t)
@@ -292,7 +293,8 @@ unfolding changedOn
 begin-fit n f t e k = record {
   laid = (tt, tt, tt, omega arith);
   inside = (getD-each (λ b. (2 ≤ b) × (b < n)) f 0 0 e (omega arith), tt);
-  angles = tt }
+  angles = tt;
+}
 
 -- rows with their angles
 pub angle-raw : (a : ℤ) → offAngle a ≡ false → angle (raw a) ≡ a

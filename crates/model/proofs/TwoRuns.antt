@@ -100,8 +100,12 @@ stands f = Some (rootOf f, f)
 abbrev bent : Shapes → ℕ → Change ℕ → Shapes
 bent S n d = record {
   working = set (S .working) n (stands (changedOn (Unit {0}) (withoutAngle d) (free S) (sourceS S n d)));
-  committed = S .committed; generation = S .generation; blocks = S .blocks;
-  left = leftAfter (writes (withoutAngle d) (sourceS S n d)) (S .left); layer = S .layer }
+  committed = S .committed;
+  generation = S .generation;
+  blocks = S .blocks;
+  left = leftAfter (writes (withoutAngle d) (sourceS S n d)) (S .left);
+  layer = S .layer;
+}
 
 shape-grown : (M : Model) (n : ℕ) (d : Change ℕ) → shapeOf (withChange M n d) ≡ bent (shapeOf M) n d
 shape-grown M n d =
@@ -109,12 +113,17 @@ shape-grown M n d =
     let f : List ℕ = free S in
     let t : Tree = source M n d in
     let e : formOf? (standing (newTree M n d)) ≡ stands (changedOn (Unit {0}) (withoutAngle d) f (sourceS S n d))
-          = ap stands (grow-form d f t) ∙ ap (λ x. stands (changedOn (Unit {0}) (withoutAngle d) f x)) (form-source M n d) in
+    = ap stands (grow-form d f t) ∙ ap (λ x. stands (changedOn (Unit {0}) (withoutAngle d) f x)) (form-source M n d) in
     let ew : forms (set (M .working) n (standing (newTree M n d))) ≡ set (forms (M .working)) n (stands (changedOn (Unit {0}) (withoutAngle d) f (sourceS S n d)))
-          = forms-set (M .working) n (standing (newTree M n d)) ∙ ap (λ x. set (forms (M .working)) n x) e in
+    = forms-set (M .working) n (standing (newTree M n d)) ∙ ap (λ x. set (forms (M .working)) n x) e in
     λ i. record {
-      working = ew i; committed = forms (M .committed); generation = M .generation; blocks = M .blocks;
-      left = leftAfter (writes (withoutAngle d) (form-source M n d i)) (M .left); layer = M .layer }
+      working = ew i;
+      committed = forms (M .committed);
+      generation = M .generation;
+      blocks = M .blocks;
+      left = leftAfter (writes (withoutAngle d) (form-source M n d i)) (M .left);
+      layer = M .layer;
+    }
 
 -- the same tree from the same shape and the same tree
 tree-same : (M N : Model) (n : ℕ) → place (M .working) n ≡ place (N .working) n → treeOf M n ≡ treeOf N n
@@ -126,7 +135,7 @@ source-same (puts s a) M N n e = tree-same M N n e
 source-same (takes s) M N n e = tree-same M N n e
 
 grow-same : (d : Change ℕ) (M N : Model) (n : ℕ) → shapeOf M ≡ shapeOf N → source M n d ≡ source N n d
-  → standing (newTree M n d) ≡ standing (newTree N n d)
+    → standing (newTree M n d) ≡ standing (newTree N n d)
 grow-same d M N n es et = ap₂ (λ (S : Shapes) (t : Tree). standing (changedOn ℕ d (free S) t)) es et
 
 -- the deeds are alike: the same, or puts of one speed
@@ -137,42 +146,54 @@ rel-put : (d : Change ℕ) (μ : Marks) (M N : Model) (n : ℕ) → Rel μ M N �
 rel-put d μ M N n R = record {
   shapes = grown-shapes M N n d d refl (R .shapes);
   working = agreeing-put (μ .working) (M .working) (N .working) n _ _ (R .working)
-    (λ z. grow-same d M N n (R .shapes) (source-same d M N n (agreeing-at (μ .working) (M .working) (N .working) n (R .working) z)));
+      (λ z. grow-same d M N n (R .shapes) (source-same d M N n (agreeing-at (μ .working) (M .working) (N .working) n (R .working) z)));
   committed = R .committed;
-  counts = R .counts }
+  counts = R .counts;
+}
 
 rel-create : (μ : Marks) (M N : Model) (n : ℕ) → Rel μ M N → Rel (tw.working≔ μ (set (μ .working) n false)) (withChange M n begin) (withChange N n begin)
 rel-create μ M N n R = record {
   shapes = grown-shapes M N n begin begin refl (R .shapes);
   working = agreeing-set (μ .working) (M .working) (N .working) n false _ _ (R .working) (λ z. grow-same begin M N n (R .shapes) refl);
   committed = R .committed;
-  counts = R .counts }
+  counts = R .counts;
+}
 
 rel-place : (μ : Marks) (M N : Model) (n : ℕ) (b : Bool) (o p : Option (Root × Tree)) → Rel μ M N → (b ≡ false → o ≡ p) → formOf? o ≡ formOf? p
-  → Rel (tw.working≔ μ (set (μ .working) n b)) (working≔ M (set (M .working) n o)) (working≔ N (set (N .working) n p))
+    → Rel (tw.working≔ μ (set (μ .working) n b)) (working≔ M (set (M .working) n o)) (working≔ N (set (N .working) n p))
 rel-place μ M N n b o p R e ef = record {
   shapes =
-    let ew : forms (set (M .working) n o) ≡ forms (set (N .working) n p)
-          = forms-set (M .working) n o ∙ ap₂ (λ x y. set x n y) (ap (λ S. S .working) (R .shapes)) ef ∙ sym (forms-set (N .working) n p) in
-    λ i. workingS (R .shapes i) (ew i);
+      let ew : forms (set (M .working) n o) ≡ forms (set (N .working) n p)
+      = forms-set (M .working) n o ∙ ap₂ (λ x y. set x n y) (ap (λ S. S .working) (R .shapes)) ef ∙ sym (forms-set (N .working) n p) in
+      λ i. workingS (R .shapes i) (ew i);
   working = agreeing-set (μ .working) (M .working) (N .working) n b o p (R .working) e;
   committed = R .committed;
-  counts = R .counts }
+  counts = R .counts;
+}
 
 rel-finished : (μ : Marks) (M N : Model) → Rel μ M N → Rel (finishedMarks μ) (finished M) (finished N)
 rel-finished μ M N R = record {
   shapes = ap (λ S. record { working = S .working; committed = S .working; generation = suc (S .generation); blocks = S .blocks; left = spent (S .left); layer = S .layer }) (R .shapes);
-  working = R .working; committed = R .working; counts = ap suc (R .counts) }
+  working = R .working;
+  committed = R .working;
+  counts = ap suc (R .counts);
+}
 
 rel-mounted : (μ : Marks) (M N : Model) → Rel μ M N → Rel (tw.working≔ μ (μ .committed)) (working≔ M (M .committed)) (working≔ N (N .committed))
 rel-mounted μ M N R = record {
   shapes = ap (λ S. workingS S (S .committed)) (R .shapes);
-  working = R .committed; committed = R .committed; counts = R .counts }
+  working = R .committed;
+  committed = R .committed;
+  counts = R .counts;
+}
 
 rel-cut : (κ : Cutting) (μ : Marks) (M N : Model) → Rel μ M N → Rel μ (cutModel κ M) (cutModel κ N)
 rel-cut κ μ M N R = record {
   shapes = ap (λ S. record { working = S .working; committed = S .committed; generation = S .generation; blocks = S .blocks; left = κ .left; layer = κ .leftMark }) (R .shapes);
-  working = R .working; committed = R .committed; counts = R .counts }
+  working = R .working;
+  committed = R .committed;
+  counts = R .counts;
+}
 
 holds-same : (M N : Model) (n s : ℕ) → shapeOf M ≡ shapeOf N → holds (shapeOf M) n s ≡ holds (shapeOf N) n s
 holds-same M N n s e = ap (λ S. holds S n s) e
@@ -215,11 +236,12 @@ rel-puts : (μ : Marks) (M N : Model) (n s : ℕ) (a b : ℤ) → Rel μ M N →
 rel-puts μ M N n s a b R = record {
   shapes = grown-shapes M N n (puts s (raw a)) (puts s (raw b)) refl (R .shapes);
   working = agreeing-set (μ .working) (M .working) (N .working) n (not (sameAngle a b) || touched μ n) _ _ (R .working)
-    (λ z. let h = or-false (sameAngle a b) (touched μ n) z in
-          grow-same (puts s (raw a)) M N n (R .shapes) (tree-same M N n (agreeing-at (μ .working) (M .working) (N .working) n (R .working) (h .1)))
-            ∙ ap (λ x. standing (changedOn ℕ (puts s (raw x)) (free (shapeOf N)) (treeOf N n))) (same-angle a b (h .0)));
+      (λ z. let h = or-false (sameAngle a b) (touched μ n) z in
+      grow-same (puts s (raw a)) M N n (R .shapes) (tree-same M N n (agreeing-at (μ .working) (M .working) (N .working) n (R .working) (h .1)))
+      ∙ ap (λ x. standing (changedOn ℕ (puts s (raw x)) (free (shapeOf N)) (treeOf N n))) (same-angle a b (h .0)));
   committed = R .committed;
-  counts = R .counts }
+  counts = R .counts;
+}
 
 -- both runs refuse alike
 put-refusals : (S : Shapes) (n s : ℕ) (a b : ℤ) → offAngle a ≡ false → offAngle b ≡ false → refusal S (put n s a) ≡ refusal S (put n s b)
@@ -254,7 +276,7 @@ module _ (V : Type 0) (join : ℕ → Map → V) where
 
   -- refused in both runs, or accepted in both
   rel-either : (o p : Option Refusal) (μ ν : Marks) (a : Answer V) (M N M′ N′ : Model) → o ≡ p → unless a μ ν ≡ ν → Rel μ M N → Rel ν M′ N′
-    → Rel (unless (by-refusal o a) μ ν) (by-model o M M′) (by-model p N N′)
+      → Rel (unless (by-refusal o a) μ ν) (by-model o M M′) (by-model p N N′)
   rel-either o p μ ν a M N M′ N′ e ea R R′ = subst (λ x. Rel (unless (by-refusal o a) μ ν) (by-model o M M′) (by-model x N N′)) e (go o)
     where
       go : (o : Option Refusal) → Rel (unless (by-refusal o a) μ ν) (by-model o M M′) (by-model o N N′)
@@ -262,22 +284,22 @@ module _ (V : Type 0) (join : ℕ → Map → V) where
       go None = subst (λ x. Rel x M′ N′) (sym ea) R′
 
   rel-next : (x : Both) (μ : Marks) (M N : Model) → Legal x → Rel μ M N
-    → Rel (unless (reply V join M (one x)) μ (marked μ x)) (next M (one x)) (next N (two x))
+      → Rel (unless (reply V join M (one x)) μ (marked μ x)) (next M (one x)) (next N (two x))
   rel-next (alike (ask q)) μ M N h R =
       rel-either (refusal (shapeOf M) q) (refusal (shapeOf N) q) μ (markAsk μ q) (answers M q) M N (after M q) (after N q)
-        (ap (λ S. refusal S q) (R .shapes)) (accepted q (mapsOf (M .working)) μ (markAsk μ q)) R (rel-ask q μ M N R)
+      (ap (λ S. refusal S q) (R .shapes)) (accepted q (mapsOf (M .working)) μ (markAsk μ q)) R (rel-ask q μ M N R)
   rel-next (alike finish) μ M N h R = rel-finished μ M N R
   rel-next (alike reopen) μ M N h R = R
   rel-next (alike mount) μ M N h R = rel-mounted μ M N R
   rel-next (tw.puts n s a b) μ M N h R =
       rel-either (refusal (shapeOf M) (put n s a)) (refusal (shapeOf N) (put n s b)) μ (marked μ (tw.puts n s a b)) done M N (after M (put n s a)) (after N (put n s b))
-        (ap (λ S. refusal S (put n s a)) (R .shapes) ∙ put-refusals (shapeOf N) n s a b (h .0) (h .1)) refl R (rel-puts μ M N n s a b R)
+      (ap (λ S. refusal S (put n s a)) (R .shapes) ∙ put-refusals (shapeOf N) n s a b (h .0) (h .1)) refl R (rel-puts μ M N n s a b R)
 
   -- the answers
   map-same : (μ : Marks) (M N : Model) (n : ℕ) → Rel μ M N → touched μ n ≡ false → mapAt (mapsOf (M .working)) n ≡ mapAt (mapsOf (N .working)) n
   map-same μ M N n R h =
       let e : place (mapsOf (M .working)) n ≡ place (mapsOf (N .working)) n
-            = maps-place (M .working) n ∙ ap rowsOf? (agreeing-at (μ .working) (M .working) (N .working) n (R .working) h) ∙ sym (maps-place (N .working) n) in
+      = maps-place (M .working) n ∙ ap rowsOf? (agreeing-at (μ .working) (M .working) (N .working) n (R .working) h) ∙ sym (maps-place (N .working) n) in
       ap (λ o. elim o as (λ _. Map) [ Some m ↦ m | None ↦ [] ]) e
 
   same-answer : (q : Ask) (μ : Marks) (M N : Model) → Rel μ M N → Unseen μ (alike (ask q)) → answers M q ≡ answers N q
@@ -345,16 +367,17 @@ module _ (V : Type 0) (join : ℕ → Map → V) where
   rel-broken (tw.puts n s a b) k κ μ M N R = (μ, refl, R)
 
   agree : (ts : List (Twin V)) (μ : Marks) (M N : Model) (w : Mode) (m : Meaning) (w₂ : Mode) (m₂ : Meaning) → Fine M w m → Fine N w₂ m₂ → Rel μ M N
-    → Every legal ts → Run V join w m (map tw.first ts) → Run V join w₂ m₂ (map tw.second ts) → Agree V μ m ts
+      → Every legal ts → Run V join w m (map tw.first ts) → Run V join w₂ m₂ (map tw.second ts) → Agree V μ m ts
   agree [] μ M N w m w₂ m₂ f f₂ R l r r₂ = tt
   agree (tw.did x a os v n a₂ os₂ v₂ n₂ ∷ ts) μ M N w m w₂ m₂ f f₂ R l r r₂ =
       let s = step-fine V join w (one x) M m a os v n f (r .0) in
       let s₂ = step-fine V join w₂ (two x) N m₂ a₂ os₂ v₂ n₂ f₂ (r₂ .0) in
       let R′ : Rel (unless a μ (marked μ x)) (next M (one x)) (next N (two x))
-            = subst (λ y. Rel (unless y μ (marked μ x)) (next M (one x)) (next N (two x))) (sym (s .0)) (rel-next x μ M N (l .0) R) in
-      (ap refusalIn (s .0) ∙ same-refusal x μ M N (l .0) R ∙ ap refusalIn (sym (s₂ .0)),
-       (λ h. s .0 ∙ same-reply x μ M N (l .0) R h ∙ sym (s₂ .0)),
-       agree ts (unless a μ (marked μ x)) (next M (one x)) (next N (two x)) v n v₂ n₂ (s .1) (s₂ .1) R′ (l .1) (r .1) (r₂ .1))
+      = subst (λ y. Rel (unless y μ (marked μ x)) (next M (one x)) (next N (two x))) (sym (s .0)) (rel-next x μ M N (l .0) R) in (
+        ap refusalIn (s .0) ∙ same-refusal x μ M N (l .0) R ∙ ap refusalIn (sym (s₂ .0)),
+        (λ h. s .0 ∙ same-reply x μ M N (l .0) R h ∙ sym (s₂ .0)),
+        agree ts (unless a μ (marked μ x)) (next M (one x)) (next N (two x)) v n v₂ n₂ (s .1) (s₂ .1) R′ (l .1) (r .1) (r₂ .1),
+      )
   agree (tw.broke x os os₂ k κ ∷ ts) μ M N w m w₂ m₂ f f₂ R l r r₂ =
       let b = rel-broken x k κ μ M N R in
       let ν : Marks = b .0 in

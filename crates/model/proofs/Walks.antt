@@ -74,8 +74,8 @@ parts-made : (n k l lo hi : ℕ) (b : Block) → Made n k l lo hi b → wellMade
 parts-made n k l lo hi b m =
     let es : List (ℕ × ℕ) = b .entries in
     and-from (eqb (b .level) l && (starts l lo es && ascending hi es)) ((leb k (length es) && leb (length es) 15) && every (payable n l) es)
-      (and-from (eqb (b .level) l) (starts l lo es && ascending hi es) (eq-eqb (b .level) l (m .level)) (and-from (starts l lo es) (ascending hi es) (m .starts′) (m .asc)))
-      (and-from (leb k (length es) && leb (length es) 15) (every (payable n l) es) (and-from (leb k (length es)) (leb (length es) 15) (le-leb k (length es) (m .enough)) (le-leb (length es) 15 (m .few))) (m .pays))
+    (and-from (eqb (b .level) l) (starts l lo es && ascending hi es) (eq-eqb (b .level) l (m .level)) (and-from (starts l lo es) (ascending hi es) (m .starts′) (m .asc)))
+    (and-from (leb k (length es) && leb (length es) 15) (every (payable n l) es) (and-from (leb k (length es)) (leb (length es) 15) (le-leb k (length es) (m .enough)) (le-leb (length es) 15 (m .few))) (m .pays))
 
 -- starts and ascents, of what the entries stand for
 module _ {X : Type 0} (F : ℕ → X) where
@@ -192,12 +192,12 @@ module _ (n : ℕ) (c : ℕ → Content) where
   sane-block k l lo hi b y e m K =
       let q : entriesIn (blockIn (c b)) ≡ y .entries = ap entriesIn e in
       let R : List (ℕ × ℕ) → Type 0 = λ es. Start l lo (mapE (payAt c l) es) × Ascends (Child ℕ ℕ l) hi (mapE (payAt c l) es) × (k ≤ length (mapE (payAt c l) es)) × (length (mapE (payAt c l) es) ≤ 15)
-            × Every (All ℕ ℕ In l) (mapE (payAt c l) es) × Every (Angles l) (mapE (payAt c l) es) × Every (All ℕ ℕ St l) (mapE (payAt c l) es) in
+      × Every (All ℕ ℕ In l) (mapE (payAt c l) es) × Every (Angles l) (mapE (payAt c l) es) × Every (All ℕ ℕ St l) (mapE (payAt c l) es) in
       let len : length (mapE (payAt c l) (y .entries)) ≡ length (y .entries) = map-length (payAt c l) (y .entries) in
       let r : R (entriesIn (blockIn (c b)))
-            = subst R (sym q) (start-to (payAt c l) l lo (y .entries) (m .starts′), K .ascent, subst (λ z. k ≤ z) (sym len) (m .enough), subst (λ z. z ≤ 15) (sym len) (m .few), K .inside, K .angles, K .stored) in
+      = subst R (sym q) (start-to (payAt c l) l lo (y .entries) (m .starts′), K .ascent, subst (λ z. k ≤ z) (sym len) (m .enough), subst (λ z. z ≤ 15) (sym len) (m .few), K .inside, K .angles, K .stored) in
       let top : blockIn (c b) ≡ Some (blockOf l (payAt c (suc l) b))
-            = e ∙ (λ i. Some (record { level = m .level i; entries = (sym q ∙ sym (payloads l (entriesIn (blockIn (c b))))) i })) in
+      = e ∙ (λ i. Some (record { level = m .level i; entries = (sym q ∙ sym (payloads l (entriesIn (blockIn (c b))))) i })) in
       record { stored = (top, r .6); start = r .0; ascent = r .1; enough = r .2; few = r .3; inside = r .4; angles = r .5 }
 
   -- the walk finds no fault: all is sane
@@ -212,7 +212,7 @@ module _ (n : ℕ) (c : ℕ → Content) where
       sane-block k (suc l) lo hi b (p .0) (p .1) m (go (none-sane l) hi (p .0 .entries) (m .asc) (m .pays) (p .3))
     where
       go : ((k lo hi b : ℕ) → faultAt n c k l lo hi b ≡ None → Sane k l lo hi b)
-        → (hi : ℕ) (es : List (ℕ × ℕ)) → ascending hi es ≡ true → every (payable n (suc l)) es ≡ true → faultBelow n c (suc l) hi es ≡ None → Kids (suc l) hi es
+          → (hi : ℕ) (es : List (ℕ × ℕ)) → ascending hi es ≡ true → every (payable n (suc l)) es ≡ true → faultBelow n c (suc l) hi es ≡ None → Kids (suc l) hi es
       go ih hi [] a y f = record { stored = tt; ascent = tt; inside = tt; angles = tt }
       go ih hi (e ∷ r) a y f =
           let pa = and-parts (ltb (e .0) (next hi r)) (ascending hi r) a in
@@ -225,9 +225,10 @@ module _ (n : ℕ) (c : ℕ → Content) where
           record {
             stored = (s .stored, K .stored);
             ascent = subst (λ z. (e .0 < z) × Child ℕ ℕ (suc l) (e .0) z (payAt c (suc l) (e .1)) × Ascends (Child ℕ ℕ (suc l)) hi (mapE (payAt c (suc l)) r)) (sym nx)
-              (ltb-true (e .0) (next hi r) (pa .0), (s .start, s .ascent, s .enough, s .few), K .ascent);
+                (ltb-true (e .0) (next hi r) (pa .0), (s .start, s .ascent, s .enough, s .few), K .ascent);
             inside = (((leb-true 2 (e .1) (pz .0), ltb-true (e .1) n (pz .1)), s .inside), K .inside);
-            angles = (s .angles, K .angles) }
+            angles = (s .angles, K .angles);
+          }
 
   -- all is sane: the walk finds no fault
   abbrev here : ℕ → ℕ → Block
@@ -247,33 +248,35 @@ module _ (n : ℕ) (c : ℕ → Content) where
         asc = subst (λ z. ascending hi z ≡ true) q (ascent-from (payAt c l) (Child ℕ ℕ l) hi es (s .ascent));
         enough = subst (λ z. k ≤ length z) q (subst (λ z. k ≤ z) len (s .enough));
         few = subst (λ z. length z ≤ 15) q (subst (λ z. z ≤ 15) len (s .few));
-        pays = subst (λ z. every (payable n l) z ≡ true) q y }
+        pays = subst (λ z. every (payable n l) z ≡ true) q y;
+      }
 
   sane-none : (l k lo hi b : ℕ) → Sane k l lo hi b → faultAt n c k l lo hi b ≡ None
   sane-none zero k lo hi b s =
       content-none n k zero lo hi b (faultBelow n c zero hi) (c b) (here zero b) (s .stored .0)
-        (parts-made n k zero lo hi (here zero b) (sane-made k zero lo hi b s (angles-leaf (entriesIn (blockIn (c b))) (s .angles)))) refl
+      (parts-made n k zero lo hi (here zero b) (sane-made k zero lo hi b s (angles-leaf (entriesIn (blockIn (c b))) (s .angles)))) refl
   sane-none (suc l) k lo hi b s =
       let es : List (ℕ × ℕ) = entriesIn (blockIn (c b)) in
       let g = go (sane-none l) hi es (s .stored .1) (s .ascent) (s .inside) (s .angles) in
       content-none n k (suc l) lo hi b (faultBelow n c (suc l) hi) (c b) (here (suc l) b) (s .stored .0)
-        (parts-made n k (suc l) lo hi (here (suc l) b) (sane-made k (suc l) lo hi b s (g .0)))
-        (ap (faultBelow n c (suc l) hi) (here-entries (suc l) b) ∙ g .1)
+      (parts-made n k (suc l) lo hi (here (suc l) b) (sane-made k (suc l) lo hi b s (g .0)))
+      (ap (faultBelow n c (suc l) hi) (here-entries (suc l) b) ∙ g .1)
     where
       go : ((k lo hi b : ℕ) → Sane k l lo hi b → faultAt n c k l lo hi b ≡ None)
-        → (hi : ℕ) (es : List (ℕ × ℕ)) → Every (All ℕ ℕ St (suc l)) (mapE (payAt c (suc l)) es) → Ascends (Child ℕ ℕ (suc l)) hi (mapE (payAt c (suc l)) es)
-        → Every (All ℕ ℕ In (suc l)) (mapE (payAt c (suc l)) es) → Every (Angles (suc l)) (mapE (payAt c (suc l)) es)
-        → (every (payable n (suc l)) es ≡ true) × (faultBelow n c (suc l) hi es ≡ None)
+          → (hi : ℕ) (es : List (ℕ × ℕ)) → Every (All ℕ ℕ St (suc l)) (mapE (payAt c (suc l)) es) → Ascends (Child ℕ ℕ (suc l)) hi (mapE (payAt c (suc l)) es)
+          → Every (All ℕ ℕ In (suc l)) (mapE (payAt c (suc l)) es) → Every (Angles (suc l)) (mapE (payAt c (suc l)) es)
+          → (every (payable n (suc l)) es ≡ true) × (faultBelow n c (suc l) hi es ≡ None)
       go ih hi [] st a i g = (refl, refl)
       go ih hi (e ∷ r) st a i g =
           let nx : next hi (mapE (payAt c (suc l)) r) ≡ next hi r = next-map (payAt c (suc l)) hi r in
           let ch : Child ℕ ℕ (suc l) (e .0) (next hi r) (payAt c (suc l) (e .1)) = subst (λ z. Child ℕ ℕ (suc l) (e .0) z (payAt c (suc l) (e .1))) nx (a .1) in
           let one : faultAt n c 7 l (e .0) (next hi r) (e .1) ≡ None
-                = ih 7 (e .0) (next hi r) (e .1) (record { stored = st .0; start = ch .0; ascent = ch .1; enough = ch .2; few = ch .3; inside = i .0 .1; angles = g .0 }) in
-          let rest = go ih hi r (st .1) (a .2) (i .1) (g .1) in
-          (and-from (leb 2 (e .1) && ltb (e .1) n) (every (payable n (suc l)) r)
-             (and-from (leb 2 (e .1)) (ltb (e .1) n) (le-leb 2 (e .1) (i .0 .0 .0)) (lt-ltb (e .1) n (i .0 .0 .1))) (rest .0),
-           ap (λ (o : Option Fault). orOther o (faultBelow n c (suc l) hi r)) one ∙ rest .1)
+          = ih 7 (e .0) (next hi r) (e .1) (record { stored = st .0; start = ch .0; ascent = ch .1; enough = ch .2; few = ch .3; inside = i .0 .1; angles = g .0 }) in
+          let rest = go ih hi r (st .1) (a .2) (i .1) (g .1) in (
+            and-from (leb 2 (e .1) && ltb (e .1) n) (every (payable n (suc l)) r)
+                (and-from (leb 2 (e .1)) (ltb (e .1) n) (le-leb 2 (e .1) (i .0 .0 .0)) (lt-ltb (e .1) n (i .0 .0 .1))) (rest .0),
+            ap (λ (o : Option Fault). orOther o (faultBelow n c (suc l) hi r)) one ∙ rest .1,
+          )
 
   -- a root
   enough-to : (l k : ℕ) → least l ≤ k → Enough l k
@@ -298,7 +301,9 @@ module _ (n : ℕ) (c : ℕ → Content) where
         fit = record {
           laid = (s .start, s .ascent, enough-to l (length (kids l (r .1))) (s .enough), s .few);
           inside = ((leb-true 2 (r .1) (pc .0), ltb-true (r .1) n (pc .1)), s .inside);
-          angles = angles-rows (suc l) 0 (payAt c (suc l) (r .1)) (s .angles) } }
+          angles = angles-rows (suc l) 0 (payAt c (suc l) (r .1)) (s .angles);
+        };
+      }
 
   good-root : (r : Root) → Good n c r → faultOf n c r ≡ None
   unfolding treeAt
@@ -306,8 +311,14 @@ module _ (n : ℕ) (c : ℕ → Content) where
       let l : ℕ = topLevel (r .0) in
       let f = g .fit in
       sane-none l (least l) 0 10000 (r .1) (record {
-        stored = g .stored; start = f .laid .0; ascent = f .laid .1; enough = enough-from l (length (kids l (r .1))) (f .laid .2); few = f .laid .3;
-        inside = f .inside .1; angles = rows-angles (suc l) 0 (payAt c (suc l) (r .1)) (f .angles) })
+        stored = g .stored;
+        start = f .laid .0;
+        ascent = f .laid .1;
+        enough = enough-from l (length (kids l (r .1))) (f .laid .2);
+        few = f .laid .3;
+        inside = f .inside .1;
+        angles = rows-angles (suc l) 0 (payAt c (suc l) (r .1)) (f .angles);
+      })
 
   pair-none : (k : ℕ) (o : Option Fault) → pairWith k o ≡ None → o ≡ None
   pair-none k None e = refl

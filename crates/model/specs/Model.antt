@@ -151,8 +151,12 @@ standing u = Some (rootOf u, u)
 abbrev pub withChange : Model → ℕ → Change ℕ → Model
 withChange M n d = record {
   working = set (M .working) n (standing (newTree M n d));
-  committed = M .committed; generation = M .generation; blocks = M .blocks;
-  left = leftAfter (writesFor M n d) (M .left); layer = M .layer }
+  committed = M .committed;
+  generation = M .generation;
+  blocks = M .blocks;
+  left = leftAfter (writesFor M n d) (M .left);
+  layer = M .layer;
+}
 
 -- an accepted call
 abbrev pub after : Model → Ask → Model

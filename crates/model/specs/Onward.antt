@@ -30,8 +30,8 @@ Turn down mount = Unit {0}
 abbrev pub Goes-on : (V : Type 0) → Type 0
 Goes-on V =
     (join : ℕ → Map → V) (m : Meaning) (es : List (Event V)) (w : Mode) (d : Meaning) (c : Call)
-      → Formatted m → Run V join (mounted bare) m es → Ends (mounted bare) m es w d → Turn w c
-      → (a : Answer V) × (os : List Op) × (w′ : Mode) × (m′ : Meaning) × Step V join w d c a os w′ m′
+    → Formatted m → Run V join (mounted bare) m es → Ends (mounted bare) m es w d → Turn w c
+    → (a : Answer V) × (os : List Op) × (w′ : Mode) × (m′ : Meaning) × Step V join w d c a os w′ m′
 
 -- the device calls of format
 abbrev pub formatting : ℕ → List Op

@@ -12,7 +12,6 @@ use Rattle.std.specs.declared.option.Option.{Option}
 use Rattle.std.specs.declared.option.Option.the-variants.{Some, None}
 use Rattle.tree.specs.Node.{ins, del}
 use Rattle.tree.specs.Reads.{look}
-
 use Rattle.model.specs.declared.refusal.Refusal.{Refusal}
 use Rattle.model.specs.declared.refusal.Refusal.the-variants.{Number, Speed, Angle, Absent, Taken}
 use Rattle.table.specs.Rows.{offAngle}

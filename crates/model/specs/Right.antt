@@ -90,12 +90,12 @@ Ends w m (lost κ ∷ es) w′ m′ = Ends down (cut κ m) es w′ m′
 abbrev pub Onward : (V : Type 0) (join : ℕ → Map → V) → Mode → Meaning → Event V → Type 0
 Onward V join w m e =
     (d : Meaning) (es : List (Event V)) → Formatted d → Run V join (mounted bare) d es → Ends (mounted bare) d es w m
-      → Right V join start (mounted bare) d (es ++ e ∷ [])
+    → Right V join start (mounted bare) d (es ++ e ∷ [])
 
 abbrev pub OneRun : (V : Type 0) → Type 0
 OneRun V =
     (join : ℕ → Map → V) (m : Meaning) (es : List (Event V))
-      → Formatted m → Run V join (mounted bare) m es → Right V join start (mounted bare) m es
+    → Formatted m → Run V join (mounted bare) m es → Right V join start (mounted bare) m es
 
 -- the whole law
 abbrev pub Histories : (V : Type 0) → Type 0

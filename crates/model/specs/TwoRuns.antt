@@ -162,6 +162,6 @@ module _ (V : Type 0) where
 abbrev pub TwoRuns : (V : Type 0) → Type 0
 TwoRuns V =
     (join : ℕ → Map → V) (m : Meaning) (ts : List (Twin V))
-      → Formatted m → Every legal ts
-      → Run V join (mounted bare) m (map first ts) → Run V join (mounted bare) m (map second ts)
-      → Agree V clear m ts
+    → Formatted m → Every legal ts
+    → Run V join (mounted bare) m (map first ts) → Run V join (mounted bare) m (map second ts)
+    → Agree V clear m ts

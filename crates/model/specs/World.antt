@@ -73,7 +73,6 @@ pub data Event (V : Type 0) : Type 0 where
   -- a cut between two calls
   lost : Cutting → Event V
 
-
 abbrev pub trees : (ℕ → Content) → Table → Trees
 trees c [] = []
 trees c (None ∷ t) = None ∷ trees c t
@@ -82,8 +81,13 @@ trees c (Some r ∷ t) = Some (r, treeAt c r) ∷ trees c t
 -- the volume by its trees
 abbrev pub modelOf : Tables → Meaning → Model
 modelOf t m = record {
-  working = trees (currentAt m) (t .working); committed = trees (currentAt m) (t .committed); generation = t .generation;
-  blocks = blocksOf m; left = m .left; layer = m .leftMark }
+  working = trees (currentAt m) (t .working);
+  committed = trees (currentAt m) (t .committed);
+  generation = t .generation;
+  blocks = blocksOf m;
+  left = m .left;
+  layer = m .leftMark;
+}
 
 abbrev pub shape : Tables → Meaning → Shapes
 shape t m = shapeOf (modelOf t m)
@@ -102,9 +106,9 @@ targets (flush ∷ os) = targets os
 abbrev pub Changed : Tables → Meaning → ℕ → Change ℕ → List Op → Mode → Meaning → Type 0
 Changed t m n d os w′ m′ =
     Each (FreeWrite t m) os
-      × ((b : ℕ) → occ b (targets os) ≡ occ b (newBlocks d (free (shape t m)) (source (modelOf t m) n d)))
-      × (w′ ≡ mounted (placed t (set (t .working) n (Some (rootOf (newTree (modelOf t m) n d))))))
-      × Stored (currentAt m′) (newTree (modelOf t m) n d)
+    × ((b : ℕ) → occ b (targets os) ≡ occ b (newBlocks d (free (shape t m)) (source (modelOf t m) n d)))
+    × (w′ ≡ mounted (placed t (set (t .working) n (Some (rootOf (newTree (modelOf t m) n d))))))
+    × Stored (currentAt m′) (newTree (modelOf t m) n d)
 
 -- an accepted call
 abbrev pub Effect : Tables → Meaning → Ask → List Op → Mode → Meaning → Type 0
@@ -132,21 +136,19 @@ sizes n w = (leb 16 n && leb n 4096) && (leb 32 w && leb w 40)
 abbrev pub found : Meaning → Result (ℕ × Table) Refusal
 found m =
     cond (sizes (blocksOf m) (m .width))
-      (walked (walk (blocksOf m) (currentAt m) 0) (latest (slotIn (blocksOf m) 0 (currentAt m 0)) (slotIn (blocksOf m) 1 (currentAt m 1))))
-      (Err Shape)
+    (walked (walk (blocksOf m) (currentAt m) 0) (latest (slotIn (blocksOf m) 0 (currentAt m 0)) (slotIn (blocksOf m) 1 (currentAt m 1))))
+    (Err Shape)
 
 -- a device as a finished format leaves it
 abbrev pub Formatted : Meaning → Type 0
 Formatted m =
     (sizes (blocksOf m) (m .width) ≡ true)
-      × ((b : ℕ) → cellAt m b .mark ≡ 0)
-      × ((b : ℕ) → cellAt m b .mark ≡ 0 → cellAt m b .persisted ≡ cellAt m b .current)
-      × (currentAt m 0 ≡ words (slotWords (m .width) 0 blank))
-      × (currentAt m 1 ≡ words (slotWords (m .width) 1 blank))
-
+    × ((b : ℕ) → cellAt m b .mark ≡ 0)
+    × ((b : ℕ) → cellAt m b .mark ≡ 0 → cellAt m b .persisted ≡ cellAt m b .current)
+    × (currentAt m 0 ≡ words (slotWords (m .width) 0 blank))
+    × (currentAt m 1 ≡ words (slotWords (m .width) 1 blank))
 
 module _ (V : Type 0) (join : ℕ → Map → V) where
-
   abbrev pub Mounts : Meaning → Answer V → List Op → Mode → Type 0
   Mounts m a os w′ =
       (os ≡ []) × elim (found m) [ Ok x ↦ (a ≡ done) × (w′ ≡ mounted (fresh x)) | Err r ↦ (a ≡ refused r) × (w′ ≡ down) ]
@@ -154,8 +156,9 @@ module _ (V : Type 0) (join : ℕ → Map → V) where
   abbrev pub Does : Mode → Meaning → Call → Answer V → List Op → Mode → Meaning → Type 0
   Does (mounted t) m (ask q) a os w′ m′ =
       elim (refusal (shape t m) q) [
-        Some r ↦ (a ≡ refused r) × Quiet (mounted t) os w′
-      | None ↦ (a ≡ answer V join (mapsOf (modelOf t m .working)) q) × Effect t m q os w′ m′ ]
+        | Some r ↦ (a ≡ refused r) × Quiet (mounted t) os w′
+        | None ↦ (a ≡ answer V join (mapsOf (modelOf t m .working)) q) × Effect t m q os w′ m′
+      ]
   Does (mounted t) m finish a os w′ m′ = ⊥
   Does (mounted t) m reopen a os w′ m′ = ⊥
   Does (mounted t) m mount a os w′ m′ = Mounts m a os w′
@@ -191,4 +194,4 @@ module _ (V : Type 0) (join : ℕ → Map → V) where
 abbrev pub Refines : (V : Type 0) → Type 0
 Refines V =
     (join : ℕ → Map → V) (m : Meaning) (es : List (Event V))
-      → Formatted m → Run V join (mounted bare) m es → Traced V join (modelOf bare m) es
+    → Formatted m → Run V join (mounted bare) m es → Traced V join (modelOf bare m) es

@@ -2,7 +2,6 @@
 mod refusal;
 
 pub use refusal::Refusal;
-
 ghost use Rattle.model.specs.Walk.{Walk-exact};
 ghost use Rattle.model.specs.Right.{Histories};
 ghost use Rattle.model.specs.Reach.{Use-is-reach, Free-by-counts};

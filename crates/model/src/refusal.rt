@@ -18,15 +18,25 @@ pub enum Refusal {
     // Too few blocks are free.
     Short,
     // Too few writes are left.
-    Worn { clone: Option<u32>, layer: LayerMark },
+    Worn {
+        clone: Option<u32>,
+        layer: LayerMark,
+    },
     // There is no generation after this one.
     Last,
     // The slots do not make a volume.
     NoVolume,
     // A block that mount walks is damaged.
-    Damaged { block: u32, clone: u32, layer: LayerMark },
+    Damaged {
+        block: u32,
+        clone: u32,
+        layer: LayerMark,
+    },
     // A block that mount walks is off the layout.
-    Malformed { block: u32, clone: u32 },
+    Malformed {
+        block: u32,
+        clone: u32,
+    },
     // There is no memory for the counts.
     NoMemory,
 }

@@ -1,34 +1,26 @@
-// Keeps the pitch table of a turbine type on a device, through a cut of the power, and says what happened.
+// Keeps the pitch table of a turbine type on a pile of devices, through a cut of the power, and says what happened.
+mod pile;
 mod report;
 mod store;
 mod task;
 
-use device::Device;
-use memory::Memory;
-use memory::MemoryDevice;
+use pile::Medium;
+use pile::Part;
 use std::error::AnyError;
-use std::alloc::Global;
-
-const BLOCKS: usize = 16;
-const WIDTH: usize = 32;
 
 fn run(rt: &LibcRuntime) -> Result<(), AnyError> {
-    let heap = rt.alloc();
-    let mut current = vec![in heap; 0u32; 512]?;
-    let mut persisted = vec![in heap; 0u32; 512]?;
-    let mut marks = vec![in heap; 0u8; 16]?;
-    println!(rt, "device: memory, 16 blocks of 32 words")?;
-    {
-        let Ok(mut device) = Memory::open(&mut current, &mut persisted, &mut marks, 32) else {
-            return Err("the slices are not of one shape".into());
-        };
-        task::before_the_cut(rt, &mut device)?;
-    }
-    println!(rt, "The power fails. Only what was persisted is left.")?;
-    let Ok(mut device) = Memory::open(&mut current, &mut persisted, &mut marks, 32) else {
-        return Err("the slices are not of one shape".into());
-    };
-    task::after_the_cut(rt, &mut device)
+    let mut medium = Medium::blank(rt.alloc())?;
+    println!(
+        rt,
+        "pile: a mirror of (check over memory) and (check over log), 16 blocks of 32 words"
+    )?;
+    pile::visit(rt, &mut medium, Part::First)?;
+    medium.lose_power();
+    println!(
+        rt,
+        "The power fails. Of the memory only the persisted words are left, of the log its image."
+    )?;
+    pile::visit(rt, &mut medium, Part::Second)
 }
 
 fn main(rt: LibcRuntime) -> Result<(), AnyError> {

@@ -10,7 +10,6 @@ ghost use Rattle.device.specs.Meaning.{reading, writing, afterWrite};
 ghost use Rattle.page.specs.Block.{encode};
 ghost use Rattle.page.specs.View.{view};
 ghost use Rattle.pitchset.specs.Stored.{decoded, found, leafBlock};
-
 use device::Device;
 use device::DeviceFault;
 use page::codec::decode_page;
@@ -20,7 +19,12 @@ use page::page::Page;
 use table::Row;
 
 // Writes a page to a block, by way of a buffer as wide as the block.
-fn save_by<D: Device>(device: &mut D, block: u32, page: &Page, buffer: &mut [u32]) -> Result<(), DeviceFault>
+fn save_by<D: Device>(
+    device: &mut D,
+    block: u32,
+    page: &Page,
+    buffer: &mut [u32],
+) -> Result<(), DeviceFault>
     requires sound { ⌜ D·Device .sound (now device) ⌝ }
     requires wide { ⌜ (32 ≤ length (now buffer)) × (length (now buffer) ≡ D·Device .meaning (now device) .width) ⌝ }
     requires low { ⌜ now page .level < 5 ⌝ }
@@ -47,7 +51,11 @@ pub fn save<D: Device>(device: &mut D, block: u32, page: &Page) -> Result<(), De
 }
 
 // The page in a block, if it holds one, by way of a buffer as wide as the block.
-fn load_by<D: Device>(device: &mut D, block: u32, buffer: &mut [u32]) -> Result<Option<Page>, DeviceFault>
+fn load_by<D: Device>(
+    device: &mut D,
+    block: u32,
+    buffer: &mut [u32],
+) -> Result<Option<Page>, DeviceFault>
     requires sound { ⌜ D·Device .sound (now device) ⌝ }
     requires wide { ⌜ (32 ≤ length (now buffer)) × (length (now buffer) ≤ 40) × (length (now buffer) ≡ D·Device .meaning (now device) .width) ⌝ }
     ensures stays { λ _. ⌜ D·Device .sound (now (device .exit)) ⌝ }
@@ -81,7 +89,14 @@ pub fn leaf_of(rows: &[Row]) -> Option<Page>
     let mut items = [Entry { speed: 0, value: 0 }; 15];
     for i in 0..rows.len() {
         let row = rows[i];
-        items[i] = Entry { speed: row.speed, value: row.payload() };
+        items[i] = Entry {
+            speed: row.speed,
+            value: row.payload(),
+        };
     }
-    Some(Page { level: 0, items, len: rows.len() })
+    Some(Page {
+        level: 0,
+        items,
+        len: rows.len(),
+    })
 }

@@ -1,7 +1,6 @@
 // The task, over any device that is wide enough.
 ghost use Prim.Native.Nat.{_≤_};
 ghost use mathlib.Core.Path.{_≡_};
-
 use super::report::Hundredths;
 use super::report::HundredthsDisplay;
 use super::report::print_rows;
@@ -114,12 +113,18 @@ pub fn before_the_cut<D: Device>(rt: &LibcRuntime, device: &mut D) -> Result<(),
     save_rows(device, &rows)?;
     device.flush();
     let count = rows.len();
-    println!(rt, "wrote the type's table, {count} rows, to block {BLOCK} and flushed it")?;
+    println!(
+        rt,
+        "wrote the type's table, {count} rows, to block {BLOCK} and flushed it"
+    )?;
     let changed = rows_of(heap, &CHANGED_TABLE)?;
     save_rows(device, &changed)?;
     let found = load_rows(heap, device)?;
     let count = found.len();
-    println!(rt, "wrote a changed table to the same block and did not flush it; the block now reads as {count} rows:")?;
+    println!(
+        rt,
+        "wrote a changed table to the same block and did not flush it; the block now reads as {count} rows:"
+    )?;
     print_rows(rt, &found)?;
     Ok(())
 }
@@ -132,7 +137,10 @@ pub fn after_the_cut<D: Device>(rt: &LibcRuntime, device: &mut D) -> Result<(), 
 {
     let rows = load_rows(rt.alloc(), device)?;
     let count = rows.len();
-    println!(rt, "opened the device again; block {BLOCK} reads as the flushed table, {count} rows:")?;
+    println!(
+        rt,
+        "opened the devices and built the pile again; block {BLOCK} reads as the flushed table, {count} rows:"
+    )?;
     print_rows(rt, &rows)?;
     println!(rt, "angles at speeds between the rows:")?;
     for speed in [200, 1_170, 1_250, 2_100, 2_600] {
@@ -146,7 +154,10 @@ fn print_angle(rt: &LibcRuntime, rows: &[Row], speed: u32) -> Result<(), AnyErro
         None => println!(rt, "    no row")?,
         Some(angle) => {
             let angle = Hundredths(angle);
-            println!(rt, "    at {speed} hundredths of a metre per second: {angle} degrees")?
+            println!(
+                rt,
+                "    at {speed} hundredths of a metre per second: {angle} degrees"
+            )?
         }
     }
     Ok(())

@@ -8,7 +8,6 @@ ghost use Rattle.std.specs.Of.Vec.{vec-len, vec-items};
 ghost use Rattle.std.specs.Options.{mapped};
 ghost use Rattle.std.specs.Slices.{found};
 ghost use Rattle.counts.specs.Grants.{inGrant, lowestFree};
-
 use super::Grant;
 use crate::Counts;
 
@@ -37,7 +36,11 @@ impl Grant {
         let mut len: usize = 0;
         for block in 2..counts.of.len() {
             if len == n {
-                return Some(Grant { blocks, next: 0, len });
+                return Some(Grant {
+                    blocks,
+                    next: 0,
+                    len,
+                });
             }
             let count = counts.get(block as u32);
             len = note(&mut blocks, len, block as u32, count);
@@ -45,7 +48,11 @@ impl Grant {
         if len < n {
             return None;
         }
-        Some(Grant { blocks, next: 0, len })
+        Some(Grant {
+            blocks,
+            next: 0,
+            len,
+        })
     }
 
     // The next block.
@@ -75,6 +82,10 @@ impl Grant {
     pub fn end(self)
         requires { ⌜ self .next ≡ self .len ⌝ }
     {
-        let Grant { blocks: _, next: _, len: _ } = self;
+        let Grant {
+            blocks: _,
+            next: _,
+            len: _,
+        } = self;
     }
 }

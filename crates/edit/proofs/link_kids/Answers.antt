@@ -24,10 +24,13 @@ returns-then-child-lt15 g c =
     let v : view (c .args .made .now) ≡ page l made = ap (λ (k : ℕ). page k made) (c .pre .level .1) in
     let z : Layout (q .0 .width) (page l made) = subst (Layout (q .0 .width)) v (laid-out (c .args .made .now) (q .0 .width) (c .pre .wide .0) (omega (arith, c .pre .level .0, c .pre .level .1))) in
     let b = by-one l (c .args .speed) (c .args .key) (getD (c .args .grant .now .blocks) (c .args .grant .now .next) 0) (getD (c .args .grant .now .blocks) (c .args .grant .now .next + 1) 0) (c .take-left .result) es made q
-              (stateOf (g .D·Device .meaning (c .link .last .self .device)) (vec-items (c .link .last .self .counts .of))) (c .take-left .ensures .block)
-              (omega (arith, entries-length (c .args .child .now), c .if-child-lt15 .taken)) (c .link .ensures .state ∙ ap (λ (n : Block). step (linking (c .take-left .result) n) q) v) z in
+    (stateOf (g .D·Device .meaning (c .link .last .self .device)) (vec-items (c .link .last .self .counts .of))) (c .take-left .ensures .block)
+    (omega (arith, entries-length (c .args .child .now), c .if-child-lt15 .taken)) (c .link .ensures .state ∙ ap (λ (n : Block). step (linking (c .take-left .result) n) q) v) z in
     record {
-      sound = c .link .ensures .sound; kids = b .kids; state = b .state; laid = b .laid;
+      sound = c .link .ensures .sound;
+      kids = b .kids;
+      state = b .state;
+      laid = b .laid;
       next = omega (arith, c .give-back .ensures .next, c .take-left .ensures .next);
       len = c .give-back .ensures .len ∙ c .take-left .ensures .len;
       blocks = c .give-back .ensures .blocks ∙ c .take-left .ensures .blocks;
@@ -46,11 +49,14 @@ returns-then-speed-sep g c =
     let zu : Layout (q .0 .width) (page l (drop 7 es)) = subst (Layout (q .0 .width)) u (laid-out (c .upper-upper .result) (q .0 .width) (c .pre .wide .0) (omega (arith, c .pre .level .0, c .upper-upper .ensures .level))) in
     let right : c .take-right .result ≡ getD (c .args .grant .now .blocks) (c .args .grant .now .next + 1) 0 = c .take-right .ensures .block ∙ ap₂ (λ (gs : List ℕ) (j : ℕ). getD gs j 0) (c .take-left .ensures .blocks) (c .take-left .ensures .next) in
     let b = by-low l (c .args .speed) (c .args .key) (getD (c .args .grant .now .blocks) (c .args .grant .now .next) 0) (getD (c .args .grant .now .blocks) (c .args .grant .now .next + 1) 0) (c .take-left .result) es made q
-              (stateOf (g .D·Device .meaning (c .link-two .last .store .device)) (vec-items (c .link-two .last .store .counts .of))) (c .take-left .ensures .block)
-              (c .take-right .result) _ right full (first-speed (c .upper-upper .result) (c .index-upper-0 .result) (drop 7 es) (c .upper-upper .ensures .these) (omega (arith, full, length-drop 7 es)))
-              (c .if-speed-sep .taken) (c .link-two .ensures .state ∙ ap₂ (λ (n o : Block). run (linking (c .take-left .result) n ∷ linking (c .take-right .result) o ∷ []) q) v u) z zu in
+    (stateOf (g .D·Device .meaning (c .link-two .last .store .device)) (vec-items (c .link-two .last .store .counts .of))) (c .take-left .ensures .block)
+    (c .take-right .result) _ right full (first-speed (c .upper-upper .result) (c .index-upper-0 .result) (drop 7 es) (c .upper-upper .ensures .these) (omega (arith, full, length-drop 7 es)))
+    (c .if-speed-sep .taken) (c .link-two .ensures .state ∙ ap₂ (λ (n o : Block). run (linking (c .take-left .result) n ∷ linking (c .take-right .result) o ∷ []) q) v u) z zu in
     record {
-      sound = c .link-two .ensures .sound; kids = b .kids; state = b .state; laid = b .laid;
+      sound = c .link-two .ensures .sound;
+      kids = b .kids;
+      state = b .state;
+      laid = b .laid;
       next = omega (arith, c .take-right .ensures .next, c .take-left .ensures .next);
       len = c .take-right .ensures .len ∙ c .take-left .ensures .len;
       blocks = c .take-right .ensures .blocks ∙ c .take-left .ensures .blocks;
@@ -69,11 +75,14 @@ returns g c =
     let zu : Layout (q .0 .width) (page l (take 7 es)) = subst (Layout (q .0 .width)) u (laid-out (c .lower-lower .result) (q .0 .width) (c .pre .wide .0) (omega (arith, c .pre .level .0, c .lower-lower .ensures .level))) in
     let right : c .take-right .result ≡ getD (c .args .grant .now .blocks) (c .args .grant .now .next + 1) 0 = c .take-right .ensures .block ∙ ap₂ (λ (gs : List ℕ) (j : ℕ). getD gs j 0) (c .take-left .ensures .blocks) (c .take-left .ensures .next) in
     let b = by-high l (c .args .speed) (c .args .key) (getD (c .args .grant .now .blocks) (c .args .grant .now .next) 0) (getD (c .args .grant .now .blocks) (c .args .grant .now .next + 1) 0) (c .take-left .result) es made q
-              (stateOf (g .D·Device .meaning (c .link-two-2 .last .store .device)) (vec-items (c .link-two-2 .last .store .counts .of))) (c .take-left .ensures .block)
-              (c .take-right .result) _ right full (first-speed (c .upper-upper .result) (c .index-upper-0 .result) (drop 7 es) (c .upper-upper .ensures .these) (omega (arith, full, length-drop 7 es)))
-              (c .if-speed-sep .left) (c .link-two-2 .ensures .state ∙ ap₂ (λ (n o : Block). run (linking (c .take-left .result) n ∷ linking (c .take-right .result) o ∷ []) q) u v) zu z in
+    (stateOf (g .D·Device .meaning (c .link-two-2 .last .store .device)) (vec-items (c .link-two-2 .last .store .counts .of))) (c .take-left .ensures .block)
+    (c .take-right .result) _ right full (first-speed (c .upper-upper .result) (c .index-upper-0 .result) (drop 7 es) (c .upper-upper .ensures .these) (omega (arith, full, length-drop 7 es)))
+    (c .if-speed-sep .left) (c .link-two-2 .ensures .state ∙ ap₂ (λ (n o : Block). run (linking (c .take-left .result) n ∷ linking (c .take-right .result) o ∷ []) q) u v) zu z in
     record {
-      sound = c .link-two-2 .ensures .sound; kids = b .kids; state = b .state; laid = b .laid;
+      sound = c .link-two-2 .ensures .sound;
+      kids = b .kids;
+      state = b .state;
+      laid = b .laid;
       next = omega (arith, c .take-right .ensures .next, c .take-left .ensures .next);
       len = c .take-right .ensures .len ∙ c .take-left .ensures .len;
       blocks = c .take-right .ensures .blocks ∙ c .take-left .ensures .blocks;

@@ -23,6 +23,6 @@ link-requires-2 g c κs =
 
 pub returns : need.returns
 returns g c = record {
-    sound = c .link-2 .ensures .sound;
-    state = c .link-2 .ensures .state ∙ ap (step (linking (c .args .right) (view (c .args .upper .now)))) (c .link .ensures .state);
-  }
+  sound = c .link-2 .ensures .sound;
+  state = c .link-2 .ensures .state ∙ ap (step (linking (c .args .right) (view (c .args .upper .now)))) (c .link .ensures .state);
+}

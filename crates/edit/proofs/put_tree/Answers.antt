@@ -40,8 +40,8 @@ returns-then-made-eq1 g c =
     record {
       sound = c .put-in-made .ensures .sound;
       grown = λ r h p.
-        let R = top-ready m cs gs (c .args .root .block) (c .args .root .level) (c .args .row .speed) r h p (c .pre .small .1) (view (c .single-top .result)) (c .single-top .ensures .level) (c .single-top .ensures .these) in
-        one-grown m cs gs (c .args .root .block) (c .args .root .level) (c .args .row .speed) r h p (c .args .row .value) q (view (c .put-in-made .result)) (c .put-in-made .ensures .made (suc (r .0)) ((0, r .1) ∷ []) R)
+          let R = top-ready m cs gs (c .args .root .block) (c .args .root .level) (c .args .row .speed) r h p (c .pre .small .1) (view (c .single-top .result)) (c .single-top .ensures .level) (c .single-top .ensures .these) in
+          one-grown m cs gs (c .args .root .block) (c .args .root .level) (c .args .row .speed) r h p (c .args .row .value) q (view (c .put-in-made .result)) (c .put-in-made .ensures .made (suc (r .0)) ((0, r .1) ∷ []) R)
           (entries-length (c .put-in-made .result) ∙ c .if-made-eq1 .taken) _ (ap (λ (x : ℕ × ℕ). x .1) (entries-at (c .put-in-made .result) 0 (c .index-made-0 .result) (omega (arith, c .if-made-eq1 .taken))));
     }
 
@@ -77,12 +77,12 @@ returns g c =
     record {
       sound = c .link .ensures .sound;
       grown = λ r h p.
-        let R = top-ready m cs gs (c .args .root .block) (c .args .root .level) (c .args .row .speed) r h p (c .pre .small .1) (view (c .single-top .result)) (c .single-top .ensures .level) (c .single-top .ensures .these) in
-        let M = c .put-in-made .ensures .made (suc (r .0)) ((0, r .1) ∷ []) R in
-        let v = many m cs gs (c .args .root .block) (c .args .root .level) (c .args .row .speed) r h p (c .args .row .value) q (view (c .put-in-made .result)) M (λ e. c .if-made-eq1 .left (sym (entries-length (c .put-in-made .result)) ∙ e)) in
-        let L = link-able m cs gs (c .args .root .block) (c .args .root .level) (c .args .row .speed) r h p (c .args .row .value) q (view (c .put-in-made .result)) M v in
-        let j : c .put-in-made .last .grant .next ≡ 2 * suc (r .0) = omega (arith, c .put-in-made .ensures .next, c .single-top .ensures .level, p .height) in
-        let b : c .take-block .result ≡ getD gs (2 * suc (r .0)) 0 = c .take-block .ensures .block ∙ ap₂ (λ (x : List ℕ) (i : ℕ). getD x i 0) (c .put-in-made .ensures .blocks) j in
-        more-grown m cs gs (c .args .root .block) (c .args .root .level) (c .args .row .speed) r h p (c .args .row .value) q (view (c .put-in-made .result)) M v (c .take-block .result) b
+          let R = top-ready m cs gs (c .args .root .block) (c .args .root .level) (c .args .row .speed) r h p (c .pre .small .1) (view (c .single-top .result)) (c .single-top .ensures .level) (c .single-top .ensures .these) in
+          let M = c .put-in-made .ensures .made (suc (r .0)) ((0, r .1) ∷ []) R in
+          let v = many m cs gs (c .args .root .block) (c .args .root .level) (c .args .row .speed) r h p (c .args .row .value) q (view (c .put-in-made .result)) M (λ e. c .if-made-eq1 .left (sym (entries-length (c .put-in-made .result)) ∙ e)) in
+          let L = link-able m cs gs (c .args .root .block) (c .args .root .level) (c .args .row .speed) r h p (c .args .row .value) q (view (c .put-in-made .result)) M v in
+          let j : c .put-in-made .last .grant .next ≡ 2 * suc (r .0) = omega (arith, c .put-in-made .ensures .next, c .single-top .ensures .level, p .height) in
+          let b : c .take-block .result ≡ getD gs (2 * suc (r .0)) 0 = c .take-block .ensures .block ∙ ap₂ (λ (x : List ℕ) (i : ℕ). getD x i 0) (c .put-in-made .ensures .blocks) j in
+          more-grown m cs gs (c .args .root .block) (c .args .root .level) (c .args .row .speed) r h p (c .args .row .value) q (view (c .put-in-made .result)) M v (c .take-block .result) b
           (stateOf (g .D·Device .meaning (c .link .last .self .device)) (vec-items (c .link .last .self .counts .of))) (c .link .ensures .state) (laid-out (c .put-in-made .result) (q .0 .width) (L .0 .0) (L .4));
     }

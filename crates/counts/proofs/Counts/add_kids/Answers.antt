@@ -34,10 +34,11 @@ loop-i-again c =
     let cs : List ℕ = vec-items (c .loop-i .self .of) in
     let kid : ℕ = getD (p .items) (c .loop-i .i) (c .index-page-i .result) .value in
     let ks : List ℕ = kidsOf (Some (view p)) in
-    let e : vec-items (c .set .last .self .of) ≡ set cs kid (getD cs kid 0 + 1) = c .set .ensures ∙ ap (λ n. set cs kid (n + 1)) (c .get-count .ensures) in
-    (ap length e ∙ length-set cs kid (getD cs kid 0 + 1) ∙ c .loop-i .inv .0,
-     (λ b. omega (arith, ap (λ ds. getD ds b 0) e, add-le cs kid b, c .loop-i .inv .1 b)),
-     add-next ks cs (vec-items (c .set .last .self .of)) (c .loop-i .i) kid (omega (arith, page-kids-length p l, c .loop-i-test .taken)) (page-kids-at p (c .loop-i .i) (c .index-page-i .result) l (c .loop-i-test .taken)) e ∙ c .loop-i .inv .2)
+    let e : vec-items (c .set .last .self .of) ≡ set cs kid (getD cs kid 0 + 1) = c .set .ensures ∙ ap (λ n. set cs kid (n + 1)) (c .get-count .ensures) in (
+      ap length e ∙ length-set cs kid (getD cs kid 0 + 1) ∙ c .loop-i .inv .0,
+      (λ b. omega (arith, ap (λ ds. getD ds b 0) e, add-le cs kid b, c .loop-i .inv .1 b)),
+      add-next ks cs (vec-items (c .set .last .self .of)) (c .loop-i .i) kid (omega (arith, page-kids-length p l, c .loop-i-test .taken)) (page-kids-at p (c .loop-i .i) (c .index-page-i .result) l (c .loop-i-test .taken)) e ∙ c .loop-i .inv .2,
+    )
 
 pub returns : need.returns
 returns c =

@@ -24,10 +24,11 @@ step items rows i e r h k is same before =
 
 pub loop-i-again : need.loop-i-again
 loop-i-again c =
-    let r = c .index-rows-i .result in
-    (length-set (c .loop-i .items) (c .loop-i .i) _ ∙ c .loop-i .inv .0,
-     step (c .loop-i .items) (c .args .rows .now) (c .loop-i .i) _ r (omega (arith, c .loop-i .inv .0)) (omega arith) (c .index-rows-i .is)
-       (ap (λ (v : ℕ). (r .speed, v)) (c .payload .ensures)) (c .loop-i .inv .1))
+    let r = c .index-rows-i .result in (
+      length-set (c .loop-i .items) (c .loop-i .i) _ ∙ c .loop-i .inv .0,
+      step (c .loop-i .items) (c .args .rows .now) (c .loop-i .i) _ r (omega (arith, c .loop-i .inv .0)) (omega arith) (c .index-rows-i .is)
+          (ap (λ (v : ℕ). (r .speed, v)) (c .payload .ensures)) (c .loop-i .inv .1),
+    )
 
 pub returns : need.returns
 returns c =

@@ -15,5 +15,5 @@ returns c =
       long = length-set (c .args .blocks .now) (c .args .len) (c .args .block) ∙ c .pre .1;
       len = ap (λ t. c .args .len + cond t 0 1) (sym none);
       these = take-more-set (c .args .blocks .now) (c .args .len) (c .args .block) (omega (arith, c .pre))
-        ∙ ap (λ t. take (c .args .len) (c .args .blocks .now) ++ cond t [] (c .args .block ∷ [])) (sym none);
+          ∙ ap (λ t. take (c .args .len) (c .args .blocks .now) ++ cond t [] (c .args .block ∷ [])) (sym none);
     }

@@ -14,4 +14,4 @@ abbrev pub Inv-loop-i : given.InvT-loop-i
 Inv-loop-i g l =
     let d = g .D·Device in
     d .sound (l .self .device) × (d .meaning (l .self .device) ≡ d .meaning (l .entry .self .device))
-      × Dropped (take (l .i) (kidsOf (Some (view (l .page))))) (d .meaning (l .entry .self .device)) (vec-items (l .entry .self .counts .of)) (vec-items (l .self .counts .of))
+    × Dropped (take (l .i) (kidsOf (Some (view (l .page))))) (d .meaning (l .entry .self .device)) (vec-items (l .entry .self .counts .of)) (vec-items (l .self .counts .of))

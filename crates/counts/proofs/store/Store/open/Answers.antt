@@ -39,5 +39,5 @@ returns g c =
       sound = c .read-page-page .ensures .sound;
       page = c .read-page-page .ensures .page;
       state = ap₂ stateOf (c .read-page-page .ensures .kept)
-        (c .open .ensures ∙ ap (opened (kidsOf (Some (view (c .read-page-page .result)))) (c .args .block)) same ∙ ap (λ o. opened (kidsOf o) (c .args .block) cs) (sym (c .read-page-page .ensures .page)));
+          (c .open .ensures ∙ ap (opened (kidsOf (Some (view (c .read-page-page .result)))) (c .args .block)) same ∙ ap (λ o. opened (kidsOf o) (c .args .block) cs) (sym (c .read-page-page .ensures .page)));
     }
