@@ -1,4 +1,5 @@
 // What the calls of a volume mean, and the law of histories. docs/model.md explains the definitions.
+mod carried;
 mod refusal;
 
 pub use refusal::Refusal;
