@@ -1,3 +1,4 @@
+// References to tree blocks, counted. docs/counts.md explains the equation and the moves that keep it.
 ghost use mathlib.Core.Path.{_≡_};
 ghost use Prim.Native.Nat.{ℕ, _+_, _-_, _*_, _<_, _≤_};
 ghost use lib.ListN.{length, getD, set, take};
@@ -14,24 +15,30 @@ pub use grant::Grant;
 use page::page::Page;
 pub use store::Store;
 
-pub fn counts_stand() -> u8
-    ensures reached { λ _. ⌜ Alive-is-reached ⌝ }
+// Where the counts keep their equation, a block is counted above 0 exactly when a place reaches it: free is unreached.
+pub fn counted_is_reached() -> u8
+    ensures { λ _. ⌜ Alive-is-reached ⌝ }
 {
     0
 }
 
+// How many references each block has.
+#[derive(Drop)]
 pub struct Counts {
     pub of: Vec<u16>,
 }
 
 impl Counts {
+    // The references to a block.
     pub fn get(&self, block: u32) -> u16
         requires { ⌜ block < vec-len (now self .of) ⌝ }
         ensures { λ r. ⌜ r ≡ getD (vec-items (now (self .entry) .of)) block 0 ⌝ }
     {
-        self.of[block as usize]
+        let at = block as usize;
+        self.of[at]
     }
 
+    // Sets the references to a block.
     pub fn set(&mut self, block: u32, count: u16)
         requires { ⌜ block < vec-len (now self .of) ⌝ }
         ensures { λ _. ⌜ vec-items (now (self .exit) .of) ≡ set (vec-items (now (self .entry) .of)) block count ⌝ }

@@ -75,7 +75,7 @@ impl Grant {
         ensures len { λ _. ⌜ now (self .exit) .len ≡ now (self .entry) .len ⌝ }
         ensures blocks { λ _. ⌜ now (self .exit) .blocks ≡ now (self .entry) .blocks ⌝ }
     {
-        self.next += 1;
+        self.next = self.next + 1;
     }
 
     // Lets the grant go, with no block in it.
