@@ -4,3 +4,4 @@ pub mod Opens
 pub mod Reading
 pub mod Drops
 pub mod Granting
+pub mod Linking

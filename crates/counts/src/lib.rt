@@ -5,6 +5,7 @@ ghost use lib.ListN.{length, getD, set, take};
 ghost use Rattle.std.specs.Of.Vec.{vec-len, vec-items};
 ghost use Rattle.std.specs.declared.option.Option.the-variants.{Some};
 ghost use Rattle.counts.specs.Counts.{Alive-is-reached, addAll, opened, Roomy};
+ghost use Rattle.counts.specs.Keeping.{retained, Retain-keeps, Open-keeps, Link-keeps, Counts-fit};
 ghost use Rattle.page.specs.Block.{kidsOf};
 ghost use Rattle.page.specs.View.{view};
 
@@ -18,6 +19,16 @@ pub use store::Store;
 // Where the counts keep their equation, a block is counted above 0 exactly when a place reaches it: free is unreached.
 pub fn counted_is_reached() -> u8
     ensures { λ _. ⌜ Alive-is-reached ⌝ }
+{
+    0
+}
+
+// Each move keeps the counts' equation, and the counts have 16 bits.
+pub fn moves_keep_the_counts() -> u8
+    ensures retain { λ _. ⌜ Retain-keeps ⌝ }
+    ensures opening { λ _. ⌜ Open-keeps ⌝ }
+    ensures link { λ _. ⌜ Link-keeps ⌝ }
+    ensures fit { λ _. ⌜ Counts-fit ⌝ }
 {
     0
 }
@@ -48,6 +59,16 @@ impl Counts {
 }
 
 impl Counts {
+    // One reference more to a block.
+    pub fn retain(&mut self, block: u32)
+        requires within { ⌜ block < vec-len (now self .of) ⌝ }
+        requires room { ⌜ getD (vec-items (now self .of)) block 0 < 65535 ⌝ }
+        ensures { λ _. ⌜ vec-items (now (self .exit) .of) ≡ retained block (vec-items (now (self .entry) .of)) ⌝ }
+    {
+        let count = self.get(block);
+        self.set(block, count + 1);
+    }
+
     // One reference more to each child of a page.
     pub fn add_kids(&mut self, page: &Page)
         requires { ⌜ Roomy (kidsOf (Some (view (now page)))) (vec-items (now self .of)) ⌝ }
