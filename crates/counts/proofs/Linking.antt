@@ -34,6 +34,6 @@ pub link-keeps : Link-keeps
 link-keeps m cs h x n laid on within free low c =
     let at-x = there m x n laid on in
     link-in (blockAt m) (blockAt (after m x n laid on)) cs h x (elsewhere m x n laid on) free within
-      (subst (λ (o : Option Block). (isSome o ≡ true) × (levelOf o < 5)) (sym at-x) (refl, laid .low))
-      (λ y p. low y (subst (λ (o : Option Block). 0 < occ y (kidsOf o)) at-x p) ∙ ap levelOf (sym at-x))
-      (subst (λ (o : Option Block). Counted (blockAt m) cs (λ b. occ b (kidsOf o) + h b)) (sym at-x) c)
+    (subst (λ (o : Option Block). (isSome o ≡ true) × (levelOf o < 5)) (sym at-x) (refl, laid .low))
+    (λ y p. low y (subst (λ (o : Option Block). 0 < occ y (kidsOf o)) at-x p) ∙ ap levelOf (sym at-x))
+    (subst (λ (o : Option Block). Counted (blockAt m) cs (λ b. occ b (kidsOf o) + h b)) (sym at-x) c)

@@ -1,6 +1,5 @@
 ghost use mathlib.Core.Path.{_≡_};
 ghost use Rattle.model.specs.Numbers.{number, blockNamed, cloneNamed, layerNamed};
-
 use super::refusal::Refusal;
 use device::LayerMark;
 

@@ -18,7 +18,7 @@ const WIDTH: usize = 33;
 
 // What lies below the pile: the slices of a memory and the image of a log.
 #[derive(Drop)]
-pub struct Medium {
+pub(crate) struct Medium {
     current: Vec<u32>,
     persisted: Vec<u32>,
     marks: Vec<u8>,
@@ -28,7 +28,7 @@ pub struct Medium {
 
 impl Medium {
     // 16 blocks in memory, and a new log of 40 records.
-    pub fn blank(heap: Global) -> Result<Medium, AllocError> {
+    pub(crate) fn blank(heap: Global) -> Result<Medium, AllocError> {
         let current = vec![in heap; 0u32; 528]?;
         let persisted = vec![in heap; 0u32; 528]?;
         let marks = vec![in heap; 0u8; 16]?;
@@ -46,7 +46,7 @@ impl Medium {
     }
 
     // The current words do not outlast the power.
-    pub fn lose_power(&mut self) {
+    pub(crate) fn lose_power(&mut self) {
         for word in self.current.iter_mut() {
             *word = 0xdead_dead;
         }
@@ -55,13 +55,13 @@ impl Medium {
 
 // Which part of the task runs.
 #[derive(Clone, Copy)]
-pub enum Part {
+pub(crate) enum Part {
     First,
     Second,
 }
 
 // Opens the two devices, builds the layers over them, and runs a part of the task.
-pub fn visit(rt: &LibcRuntime, medium: &mut Medium, part: Part) -> Result<(), AnyError> {
+pub(crate) fn visit(rt: &LibcRuntime, medium: &mut Medium, part: Part) -> Result<(), AnyError> {
     let Ok(memory) = Memory::open(
         &mut medium.current,
         &mut medium.persisted,

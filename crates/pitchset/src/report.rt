@@ -6,7 +6,7 @@ use table::Row;
 
 // A number of hundredths, as a decimal fraction.
 #[derive(Clone, Copy)]
-pub struct Hundredths(pub i32);
+pub(crate) struct Hundredths(pub(crate) i32);
 
 pub impl fmt::Display for Hundredths as HundredthsDisplay {
     fn fmt<W: fmt::Write>(&self, f: &mut fmt::Formatter<W>) -> fmt::Result {
@@ -19,7 +19,7 @@ pub impl fmt::Display for Hundredths as HundredthsDisplay {
 }
 
 // The rows, one to a line.
-pub fn print_rows(rt: &LibcRuntime, rows: &[Row]) -> io::Result<()> {
+pub(crate) fn print_rows(rt: &LibcRuntime, rows: &[Row]) -> io::Result<()> {
     for row in rows {
         let speed = Hundredths(row.speed as i32);
         let angle = Hundredths(row.angle);

@@ -37,7 +37,7 @@ fn save_by<D: Device>(
 }
 
 // Writes a page to a block.
-pub fn save<D: Device>(device: &mut D, block: u32, page: &Page) -> Result<(), DeviceFault>
+pub(crate) fn save<D: Device>(device: &mut D, block: u32, page: &Page) -> Result<(), DeviceFault>
     requires sound { ⌜ D·Device .sound (now device) ⌝ }
     requires wide { ⌜ (32 ≤ D·Device .meaning (now device) .width) × (D·Device .meaning (now device) .width ≤ 40) ⌝ }
     requires low { ⌜ now page .level < 5 ⌝ }
@@ -67,7 +67,7 @@ fn load_by<D: Device>(
 }
 
 // The page in a block, if it holds one.
-pub fn load<D: Device>(device: &mut D, block: u32) -> Result<Option<Page>, DeviceFault>
+pub(crate) fn load<D: Device>(device: &mut D, block: u32) -> Result<Option<Page>, DeviceFault>
     requires sound { ⌜ D·Device .sound (now device) ⌝ }
     requires wide { ⌜ (32 ≤ D·Device .meaning (now device) .width) × (D·Device .meaning (now device) .width ≤ 40) ⌝ }
     ensures stays { λ _. ⌜ D·Device .sound (now (device .exit)) ⌝ }
@@ -80,7 +80,7 @@ pub fn load<D: Device>(device: &mut D, block: u32) -> Result<Option<Page>, Devic
 }
 
 // A leaf with these rows, which ascend, if there are not too many.
-pub fn leaf_of(rows: &[Row]) -> Option<Page>
+pub(crate) fn leaf_of(rows: &[Row]) -> Option<Page>
     ensures { λ r. ⌜ mapped view r ≡ cond (leb (length (now (rows .entry))) 15) (Some (leafBlock (now (rows .entry)))) None ⌝ }
 {
     if rows.len() > 15 {

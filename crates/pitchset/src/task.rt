@@ -103,7 +103,7 @@ fn load_rows<D: Device>(heap: Global, device: &mut D) -> Result<Vec<Row>, AnyErr
 }
 
 // Keeps the type's table, and then writes a changed one that no flush follows.
-pub fn before_the_cut<D: Device>(rt: &LibcRuntime, device: &mut D) -> Result<(), AnyError>
+pub(crate) fn before_the_cut<D: Device>(rt: &LibcRuntime, device: &mut D) -> Result<(), AnyError>
     requires sound { ⌜ D·Device .sound (now device) ⌝ }
     requires wide { ⌜ (32 ≤ D·Device .meaning (now device) .width) × (D·Device .meaning (now device) .width ≤ 40) ⌝ }
     ensures stays { λ _. ⌜ D·Device .sound (now (device .exit)) ⌝ }
@@ -130,7 +130,7 @@ pub fn before_the_cut<D: Device>(rt: &LibcRuntime, device: &mut D) -> Result<(),
 }
 
 // Reads the table back, and what lies between its rows.
-pub fn after_the_cut<D: Device>(rt: &LibcRuntime, device: &mut D) -> Result<(), AnyError>
+pub(crate) fn after_the_cut<D: Device>(rt: &LibcRuntime, device: &mut D) -> Result<(), AnyError>
     requires sound { ⌜ D·Device .sound (now device) ⌝ }
     requires wide { ⌜ (32 ≤ D·Device .meaning (now device) .width) × (D·Device .meaning (now device) .width ≤ 40) ⌝ }
     ensures stays { λ _. ⌜ D·Device .sound (now (device .exit)) ⌝ }

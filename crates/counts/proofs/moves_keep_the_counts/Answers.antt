@@ -6,8 +6,8 @@ use Rattle.counts.proofs.moves_keep_the_counts.Needs as need
 
 pub returns : need.returns
 returns c = record {
-    retain = λ m cs h x a k. add-one-more (blockAt m) cs h x k a;
-    opening = open-counted;
-    link = link-keeps;
-    fit = count-le;
-  }
+  retain = λ m cs h x a k. add-one-more (blockAt m) cs h x k a;
+  opening = open-counted;
+  link = link-keeps;
+  fit = count-le;
+}
