@@ -19,7 +19,8 @@ use Rattle.edit.specs.Able.{Ready, Able, Made, Open}
 use Rattle.counts.specs.Moves.{Wide, Owned}
 use Rattle.edit.proofs.States.{Same, same-by, writes-append}
 use Rattle.edit.proofs.Parting.{By}
-use Rattle.edit.proofs.Downs.{owned, key-is, number-is, child-node, part-ready, up, shallow-length}
+use Rattle.edit.proofs.Downs.{owned, key-is, number-is, child-node, part-ready, opened-free, up, shallow-length}
+use Rattle.edit.proofs.Keeps.{keeps}
 
 -- at most two writes a level
 links-writes : {X : Type 0} (l : ℕ) (f : X → List (ℕ × ℕ)) (x y : ℕ) (ps : List (ℕ × X)) → writes (links l (mapE (λ c. (c .0, f (c .1))) (placed x y ps))) ≡ length ps
@@ -74,25 +75,25 @@ module _ (m : Meaning) (cs gs : List ℕ) (n : Block) (s : ℕ) where
       (omega (arith, ap (λ (z : Block). length (z .entries)) (p .is)), omega (arith, p .low, p .span .0, ap (λ (z : Block). getD (z .entries) 0 (0, 0) .0) (p .is)))
 
   module _ (above : n .level ≡ 0 → ⊥) (i : ℕ) (at-i : i < length (n .entries)) (low-i : getD (n .entries) i (0, 0) .0 ≤ s) (high-i : suc i < length (n .entries) → s < getD (n .entries) (suc i) (0, 0) .0)
-      (key b : ℕ) (entry-is : getD (n .entries) i (0, 0) ≡ (key, b)) where
-    pub owned-any : (l : ℕ) (es : List (ℕ × Pay ℕ ℕ l)) → Ready m cs gs n s l es → Owned m cs b
+      (key number : ℕ) (entry-is : getD (n .entries) i (0, 0) ≡ (key, number)) where
+    pub owned-any : (l : ℕ) (es : List (ℕ × Pay ℕ ℕ l)) → Ready m cs gs n s l es → Owned m cs number
     owned-any zero es p = absurd (above (ap (λ (x : Block). x .level) (p .is)))
     owned-any (suc l) es p =
         subst (Owned m cs) (sym (number-is m cs gs n s l es p i at-i low-i high-i) ∙ ap (λ (x : ℕ × ℕ). x .1) entry-is) (owned m cs gs n s l es p i at-i low-i high-i)
 
-    module _ (child part : Block) (there : blockAt m b ≡ Some child) (lv : part .level ≡ child .level) (these : part .entries ≡ chosen s (child .entries)) (q₁ : State) (e₁ : q₁ ≡ step (opening b) (stateOf m cs)) where
+    module _ (child part : Block) (there : blockAt m number ≡ Some child) (lv : part .level ≡ child .level) (these : part .entries ≡ chosen s (child .entries)) (q₁ : State) (e₁ : q₁ ≡ step (opening number) (stateOf m cs)) where
       -- what is known of the child, above its level
       child-is : (l : ℕ) (es : List (ℕ × Tree ℕ ℕ l)) → (p : Ready m cs gs n s (suc l) es) → child ≡ nodeOf l (getD es i (0, (0, [])) .1 .1)
       child-is l es p =
           let t : Tree ℕ ℕ l = getD es i (0, (0, [])) .1 in
-          let bt : b ≡ t .0 = sym (ap (λ (x : ℕ × ℕ). x .1) entry-is) ∙ number-is m cs gs n s l es p i at-i low-i high-i in
+          let bt : number ≡ t .0 = sym (ap (λ (x : ℕ × ℕ). x .1) entry-is) ∙ number-is m cs gs n s l es p i at-i low-i high-i in
           let e : Some child ≡ Some (nodeOf l (t .1)) = sym there ∙ ap (blockAt m) bt ∙ child-node m cs gs n s l es p i at-i low-i high-i in
           cc
 
       inner : (l : ℕ) (es : List (ℕ × Tree ℕ ℕ l)) → (p : Ready m cs gs n s (suc l) es) → Ready (q₁ .0) (q₁ .1) gs part s l (chosen s (getD es i (0, (0, [])) .1 .1))
       inner l es p =
           let t : Tree ℕ ℕ l = getD es i (0, (0, [])) .1 in
-          let bt : b ≡ t .0 = sym (ap (λ (x : ℕ × ℕ). x .1) entry-is) ∙ number-is m cs gs n s l es p i at-i low-i high-i in
+          let bt : number ≡ t .0 = sym (ap (λ (x : ℕ × ℕ). x .1) entry-is) ∙ number-is m cs gs n s l es p i at-i low-i high-i in
           let c = child-is l es p in
           let q : q₁ ≡ step (opening (t .0)) (stateOf m cs) = e₁ ∙ ap (λ (x : ℕ). step (opening x) (stateOf m cs)) bt in
           let v : part ≡ page l (chosen s (shallow l (t .1))) = ap₂ page (lv ∙ ap (λ (x : Block). x .level) c) (these ∙ ap (λ (x : Block). chosen s (x .entries)) c) in
@@ -107,21 +108,39 @@ module _ (m : Meaning) (cs gs : List ℕ) (n : Block) (s : ℕ) where
       )
 
       module _ (a : ℕ) (made : Block) (q₂ : State) (f : (l : ℕ) (es : List (ℕ × Pay ℕ ℕ l)) → Ready (q₁ .0) (q₁ .1) gs part s l es → Made (q₁ .0) (q₁ .1) (q₂ .0) (q₂ .1) gs s a l es made) where
+        -- a free block that is none of the first 2l places stays free
+        still-free : (l : ℕ) (es : List (ℕ × Tree ℕ ℕ l)) → Ready m cs gs n s (suc l) es → (b : ℕ) → ((i : ℕ) → i < 2 * l → b ≡ getD gs i 0 → ⊥) → getD cs b 0 ≡ 0 → getD (q₂ .1) b 0 ≡ 0
+        still-free l es p b out z =
+            let t : Tree ℕ ℕ l = getD es i (0, (0, [])) .1 in
+            let xs = chosen s (t .1) in
+            let R = inner l es p in
+            let M = f l xs R in
+            let bt : number ≡ t .0 = sym (ap (λ (x : ℕ × ℕ). x .1) entry-is) ∙ number-is m cs gs n s l es p i at-i low-i high-i in
+            let q : q₁ ≡ step (opening (t .0)) (stateOf m cs) = e₁ ∙ ap (λ (x : ℕ). step (opening x) (stateOf m cs)) bt in
+            let z₁ : getD (q₁ .1) b 0 ≡ 0 = ap (λ (x : State). getD (x .1) b 0) q ∙ opened-free m cs gs n s l es p i at-i low-i high-i b z in
+            let S = keeps gs s a (2 * l) l xs q₁ (R .others) (R .stored) (R .counted) (R .free) (omega arith) (M .laid) in
+            ap (λ (x : State). getD (x .1) b 0) (M .state) ∙ S .kept .free b out z₁
+
         -- what linking needs
         pub linkable : (j : ℕ) → j ≡ 2 * part .level → (l : ℕ) (es : List (ℕ × Pay ℕ ℕ l)) → Ready m cs gs n s l es → Wide (q₂ .0) × (2 ≤ q₂ .0 .left) × Open (q₂ .0) (q₂ .1) gs j × (made .level ≡ child .level) × (suc (child .level) ≡ n .level)
         linkable j ej zero es p = absurd (above (ap (λ (x : Block). x .level) (p .is)))
         linkable j ej (suc l) es p =
             let t : Tree ℕ ℕ l = getD es i (0, (0, [])) .1 in
             let M = f l (chosen s (t .1)) (inner l es p) in
-            let r₁ = same-by (opening b ∷ []) (stateOf m cs) q₁ e₁ in
+            let r₁ = same-by (opening number ∷ []) (stateOf m cs) q₁ e₁ in
             let r₂ = same-by (moves gs s a l (chosen s (t .1))) q₁ q₂ (M .state) in
             let w = moves-writes gs s a l (chosen s (t .1)) in
             let lp : part .level ≡ l = lv ∙ ap (λ (x : Block). x .level) (child-is l es p) in
-            let pl = p .places j (omega (arith, ej, lp)) in
-            let pr = p .places (j + 1) (omega (arith, ej, lp)) in (
+            let pl = p .free .on j (omega (arith, ej, lp)) in
+            let pr = p .free .on (j + 1) (omega (arith, ej, lp)) in
+            let far : (b : ℕ) → ((i : ℕ) → i < 2 * l → b ≡ getD gs i 0 → ⊥) → getD cs b 0 ≡ 0 → getD (q₂ .1) b 0 ≡ 0 = still-free l es p in (
               (omega (arith, r₁ .width, r₂ .width, p .wide .0), omega (arith, r₁ .width, r₂ .width, p .wide .1)),
               omega (arith, r₁ .left, r₂ .left, w, p .left),
-              record { left-on = omega (arith, r₁ .blocks, r₂ .blocks, pl .0); left-in = omega (arith, r₁ .counts, r₂ .counts, pl .1); right-on = omega (arith, r₁ .blocks, r₂ .blocks, pr .0); right-in = omega (arith, r₁ .counts, r₂ .counts, pr .1) },
+              record { left-on = omega (arith, r₁ .blocks, r₂ .blocks, pl .0); left-in = omega (arith, r₁ .counts, r₂ .counts, pl .1);
+                left-free = far (getD gs j 0) (λ i lt e. p .free .apart i j (omega (arith, ej, lp)) (omega (arith, ej, lp)) (sym e)) (p .free .count j (omega (arith, ej, lp)));
+                right-free = far (getD gs (j + 1) 0) (λ i lt e. p .free .apart i (j + 1) (omega (arith, ej, lp)) (omega (arith, ej, lp)) (sym e)) (p .free .count (j + 1) (omega (arith, ej, lp)));
+                apart = p .free .apart j (j + 1) (omega arith) (omega (arith, ej, lp));
+                right-on = omega (arith, r₁ .blocks, r₂ .blocks, pr .0); right-in = omega (arith, r₁ .counts, r₂ .counts, pr .1) },
               ap (λ (x : Block). x .level) (M .is) ∙ sym (ap (λ (x : Block). x .level) (child-is l es p)),
               omega (arith, ap (λ (x : Block). x .level) (child-is l es p), ap (λ (x : Block). x .level) (p .is)),
             )
@@ -132,7 +151,7 @@ module _ (m : Meaning) (cs gs : List ℕ) (n : Block) (s : ℕ) where
         up-any j ej q₃ ks r by e (suc l) es p =
             let t : Tree ℕ ℕ l = getD es i (0, (0, [])) .1 in
             let k : ℕ = getD es i (0, (0, [])) .0 in
-            let bt : b ≡ t .0 = sym (ap (λ (x : ℕ × ℕ). x .1) entry-is) ∙ number-is m cs gs n s l es p i at-i low-i high-i in
+            let bt : number ≡ t .0 = sym (ap (λ (x : ℕ × ℕ). x .1) entry-is) ∙ number-is m cs gs n s l es p i at-i low-i high-i in
             let kt : key ≡ k = sym (ap (λ (x : ℕ × ℕ). x .0) entry-is) ∙ key-is m cs gs n s l es p i at-i low-i high-i in
             let M = f l (chosen s (t .1)) (inner l es p) in
             let c = child-is l es p in

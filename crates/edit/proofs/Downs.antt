@@ -22,7 +22,7 @@ use Rattle.tree.proofs.Removes.{cell-le}
 use Rattle.tree.proofs.Steps.{map-get, every-get}
 use Rattle.page.specs.Block.{Block, blockAt, kidsOf}
 use Rattle.counts.specs.Counts.{one, occ, Counted, opened}
-use Rattle.counts.proofs.Opens.{recount, occ-append, open-counted, length-opened}
+use Rattle.counts.proofs.Opens.{recount, occ-append, open-counted, open-free, length-opened}
 use Rattle.edit.specs.Plan.{shallow, page, nodeOf, kids, Stored, chosen, unchosen, parted, placed, links, down, kidN, putN, kidMoves, moves}
 use Rattle.counts.specs.Moves.{Move, opening, State, stateOf, step, run, Laid}
 use Rattle.edit.specs.Able.{Loose, Ready, Made}
@@ -243,6 +243,10 @@ module _ (m : Meaning) (cs gs : List ℕ) (n : Block) (s l : ℕ) (es : List (�
   pub child-node : blockAt m (t .0) ≡ Some (nodeOf l (t .1))
   child-node = child-stored .0
 
+  -- what was free stays free when the child is opened
+  pub opened-free : (b : ℕ) → getD cs b 0 ≡ 0 → getD (opened (kidsOf (blockAt m (t .0))) (t .0) cs) b 0 ≡ 0
+  opened-free b z = open-free m cs sides (t .0) b held z
+
   pub part-ready : Ready m (opened (kidsOf (blockAt m (t .0))) (t .0) cs) gs (page l (chosen s (shallow l (t .1)))) s l (chosen s (t .1))
   part-ready =
       let g = seg-get (Loose (suc l)) s (p .lo) (p .hi) es i d (p .span) at-e (p .high) high-e in
@@ -263,7 +267,11 @@ module _ (m : Meaning) (cs gs : List ℕ) (n : Block) (s l : ℕ) (es : List (�
         modest = λ b. omega (arith, sides-le b, kids-le b l (unchosen s (t .1)), a .few);
         few = omega (arith, p .few, length-opened (kidsOf (blockAt m (t .0))) (t .0) cs);
         left = omega (arith, p .left);
-        places = λ j h. (p .places j (omega arith) .0, omega (arith, p .places j (omega arith) .1, length-opened (kidsOf (blockAt m (t .0))) (t .0) cs));
+        free = record {
+          count = λ j h. opened-free (getD gs j 0) (p .free .count j (omega arith));
+          on = λ j h. (p .free .on j (omega arith) .0, omega (arith, p .free .on j (omega arith) .1, length-opened (kidsOf (blockAt m (t .0))) (t .0) cs));
+          apart = λ i j h k. p .free .apart i j h (omega arith);
+        };
         wide = p .wide;
       }
 

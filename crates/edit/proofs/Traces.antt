@@ -1,79 +1,90 @@
--- The writes of the moves.
-use mathlib.Core.Path.{_≡_, refl, ap, ap₂, sym, subst, _∙_}
+-- The writes of moves: they go to places of the grant.
+use mathlib.Core.Path.{_≡_, refl, ap, sym, subst}
 use mathlib.Core.List.{List, [], _∷_, _++_}
 use mathlib.Core.Bool.{Bool, true, false, cond}
-use Prim.Native.Nat.{ℕ, zero, suc, _+_, _-_, _*_, _<_, _≤_}
+use Prim.Native.Nat.{ℕ, zero, suc, _+_, _*_, _<_, _≤_}
 use native.Mathlib.Omega.{arith}
 use lib.ListN.{length, getD, take, drop}
 use lib.Dec.{eqb, ltb}
-use Rattle.device.specs.Meaning.{Meaning, written}
+use Rattle.device.specs.Meaning.{Meaning, blocksOf}
+use Rattle.device.specs.Cuts.{Op, Op.write, Op.flush, apply, replay}
 use Rattle.tree.specs.Node.{first, ahead, mapE}
-use Rattle.tree.specs.Tree.{Pay, Tree}
+use Rattle.tree.specs.Tree.{Pay}
 use Rattle.page.specs.Block.{encode}
-use Rattle.edit.specs.Plan.{shallow, chosen, parted, placed, links, down, kidN, putN, kidMoves, moves}
 use Rattle.counts.specs.Moves.{Move, opening, linking, State, step, run}
-use Rattle.edit.specs.Trees.{Op, replay, Places}
+use Rattle.model.specs.TreeBlocks.{Each}
+use Rattle.model.specs.World.{targets}
+use Rattle.edit.specs.Plan.{shallow, chosen, parted, placed, links, down, kidN, putN, kidMoves, moves}
+use Rattle.edit.specs.Edited.{WritesFree}
 
-pub ops : ℕ → List Move → List Op
+-- the blocks that moves write
+abbrev pub linked : List Move → List ℕ
+linked [] = []
+linked (opening x ∷ vs) = linked vs
+linked (linking x n ∷ vs) = x ∷ linked vs
+
+pub linked-append : (us vs : List Move) → linked (us ++ vs) ≡ linked us ++ linked vs
+linked-append [] vs = refl
+linked-append (opening x ∷ us) vs = linked-append us vs
+linked-append (linking x n ∷ us) vs = ap (λ (z : List ℕ). x ∷ z) (linked-append us vs)
+
+-- the device calls of moves, at width w
+abbrev pub ops : ℕ → List Move → List Op
 ops w [] = []
 ops w (opening x ∷ vs) = ops w vs
-ops w (linking x n ∷ vs) = (x, encode w n) ∷ ops w vs
+ops w (linking x n ∷ vs) = write x (encode w n) ∷ ops w vs
 
 pub run-replay : (vs : List Move) (q : State) → run vs q .0 ≡ replay (ops (q .0 .width) vs) (q .0)
-unfolding ops
 run-replay [] q = refl
 run-replay (opening x ∷ vs) q = run-replay vs (step (opening x) q)
 run-replay (linking x n ∷ vs) q = run-replay vs (step (linking x n) q)
 
-places-le : (gs : List ℕ) (i n k : ℕ) (os : List Op) → n ≤ k → Places gs i n os → Places gs i k os
-places-le gs i n k [] h p = omega arith
-places-le gs i n k (o ∷ os) h p = (p .0, p .1, p .2, places-le gs (suc (p .0)) n k os h (p .3))
+pub ops-targets : (w : ℕ) (vs : List Move) → targets (ops w vs) ≡ linked vs
+ops-targets w [] = refl
+ops-targets w (opening x ∷ vs) = ops-targets w vs
+ops-targets w (linking x n ∷ vs) = ap (λ (z : List ℕ). x ∷ z) (ops-targets w vs)
 
-ops-append : (w : ℕ) (us vs : List Move) → ops w (us ++ vs) ≡ ops w us ++ ops w vs
-unfolding ops
-ops-append w [] vs = refl
-ops-append w (opening x ∷ us) vs = ops-append w us vs
-ops-append w (linking x n ∷ us) vs = ap (λ (z : List Op). (x, encode w n) ∷ z) (ops-append w us vs)
+pub ops-free : (m : Meaning) (cs : List ℕ) (w : ℕ) (vs : List Move) → Each (λ b. (2 ≤ b) × (b < blocksOf m) × (getD cs b 0 ≡ 0)) (linked vs) → Each (WritesFree m cs) (ops w vs)
+ops-free m cs w [] p = tt
+ops-free m cs w (opening x ∷ vs) p = ops-free m cs w vs p
+ops-free m cs w (linking x n ∷ vs) p = (p .0, ops-free m cs w vs (p .1))
 
-pub places-append : (gs : List ℕ) (i n k : ℕ) (us vs : List Op) → Places gs i n us → Places gs n k vs → Places gs i k (us ++ vs)
-places-append gs i n k [] [] p q = omega arith
-places-append gs i n k [] (o ∷ vs) p q = (q .0, omega (arith, p, q .1), q .2, q .3)
-places-append gs i n k (o ∷ us) vs p q = (p .0, p .1, p .2, places-append gs (suc (p .0)) n k us vs (p .3) q)
+module _ {Y : Type 0} (N : Y → Type 0) where
+  pub each-append : (xs ys : List Y) → Each N xs → Each N ys → Each N (xs ++ ys)
+  each-append [] ys a b = b
+  each-append (x ∷ xs) ys a b = (a .0, each-append xs ys (a .1) b)
 
-down-places : {X : Type 0} (gs : List ℕ) (n w s : ℕ) (f : ℕ → X → List Move) → ((k : ℕ) (x : X) → Places gs 0 n (ops w (f k x))) → (es : List (ℕ × X)) → Places gs 0 n (ops w (down s f es))
-unfolding ops
-down-places gs n w s f h [] = omega arith
-down-places gs n w s f h (e ∷ r) = go (ahead s r) (down-places gs n w s f h r)
-  where
-    go : (b : Bool) → Places gs 0 n (ops w (down s f r)) → Places gs 0 n (ops w (cond b (f (e .0) (e .1)) (down s f r)))
-    go true q = h (e .0) (e .1)
-    go false q = q
+-- what holds of the first 2l places of the grant holds of each block that put's moves below level l write
+module _ (gs : List ℕ) (N : ℕ → Type 0) where
+  pub each-linked : (us vs : List Move) → Each N (linked us) → Each N (linked vs) → Each N (linked (us ++ vs))
+  each-linked us vs p q = subst (Each N) (sym (linked-append us vs)) (each-append N (linked us) (linked vs) p q)
 
-links-places : {X : Type 0} (gs : List ℕ) (i w l s k : ℕ) (f : List (ℕ × X) → List (ℕ × ℕ)) (es made : List (ℕ × X)) → Places gs i (i + 2) (ops w (links l (mapE (λ c. (c .0, f (c .1))) (placed (getD gs i 0) (getD gs (i + 1) 0) (parted s k es made)))))
-unfolding ops
-links-places {X} gs i w l s k f es made = go (eqb (length es) 15) (ltb s (first (drop 7 es)))
-  where
-    go : (b d : Bool) → Places gs i (i + 2) (ops w (links l (mapE (λ c. (c .0, f (c .1))) (placed (getD gs i 0) (getD gs (i + 1) 0) (cond b (cond d ((k, made) ∷ (first (drop 7 es), drop 7 es) ∷ []) ((k, take 7 es) ∷ (first (drop 7 es), made) ∷ [])) ((k, made) ∷ []))))))
-    go true true = (i, omega arith, refl, (i + 1, omega arith, refl, omega arith))
-    go true false = (i, omega arith, refl, (i + 1, omega arith, refl, omega arith))
-    go false d = (i, omega arith, refl, omega arith)
+  down-each : {X : Type 0} (s : ℕ) (f : ℕ → X → List Move) → ((k : ℕ) (x : X) → Each N (linked (f k x))) → (es : List (ℕ × X)) → Each N (linked (down s f es))
+  down-each s f h [] = tt
+  down-each s f h (e ∷ r) = go (ahead s r) (down-each s f h r)
+    where
+      go : (b : Bool) → Each N (linked (down s f r)) → Each N (linked (cond b (f (e .0) (e .1)) (down s f r)))
+      go true q = h (e .0) (e .1)
+      go false q = q
 
-pub moves-places : (gs : List ℕ) (w s a l : ℕ) (es : List (ℕ × Pay ℕ ℕ l)) → Places gs 0 (2 * l) (ops w (moves gs s a l es))
-unfolding ops
-moves-places gs w s a zero es = omega arith
-moves-places gs w s a (suc l) es =
-    down-places gs (2 * suc l) w s (kidMoves gs s a l (moves gs s a l))
-    (λ k t.
-    let ms = moves gs s a l (chosen s (t .1)) in
-    let ls = links l (mapE (λ c. (c .0, shallow l (c .1))) (kidN gs s a l (putN gs s a l) k t)) in
-    let le : 2 * l + 2 ≤ 2 * suc l = omega arith in
-    subst (Places gs 0 (2 * suc l)) (sym (ops-append w ms ls))
-    (places-le gs 0 (2 * l + 2) (2 * suc l) _ le (places-append gs 0 (2 * l) (2 * l + 2) (ops w ms) (ops w ls) (moves-places gs w s a l (chosen s (t .1))) (links-places gs (2 * l) w l s k (shallow l) (t .1) (putN gs s a l (chosen s (t .1)))))))
-    es
+  links-each : {X : Type 0} (x y l s k : ℕ) (f : List (ℕ × X) → List (ℕ × ℕ)) (es made : List (ℕ × X)) → N x → N y → Each N (linked (links l (mapE (λ c. (c .0, f (c .1))) (placed x y (parted s k es made)))))
+  links-each {X} x y l s k f es made nx ny = go (eqb (length es) 15) (ltb s (first (drop 7 es)))
+    where
+      go : (b d : Bool) → Each N (linked (links l (mapE (λ c. (c .0, f (c .1))) (placed x y (cond b (cond d ((k, made) ∷ (first (drop 7 es), drop 7 es) ∷ []) ((k, take 7 es) ∷ (first (drop 7 es), made) ∷ [])) ((k, made) ∷ []))))))
+      go true true = (nx, (ny, tt))
+      go true false = (nx, (ny, tt))
+      go false d = (nx, tt)
 
-pub places-up : (gs : List ℕ) (i n k : ℕ) (os : List Op) → n ≤ k → Places gs i n os → Places gs i k os
-places-up gs i n k os h p = places-le gs i n k os h p
+  pub moves-each : (s a l : ℕ) (es : List (ℕ × Pay ℕ ℕ l)) → ((j : ℕ) → j < 2 * l → N (getD gs j 0)) → Each N (linked (moves gs s a l es))
+  moves-each s a zero es h = tt
+  moves-each s a (suc l) es h =
+      down-each s (kidMoves gs s a l (moves gs s a l))
+      (λ k t.
+      each-linked (moves gs s a l (chosen s (t .1))) (links l (mapE (λ c. (c .0, shallow l (c .1))) (kidN gs s a l (putN gs s a l) k t)))
+      (moves-each s a l (chosen s (t .1)) (λ j lt. h j (omega arith)))
+      (links-each (getD gs (2 * l) 0) (getD gs (2 * l + 1) 0) l s k (shallow l) (t .1) (putN gs s a l (chosen s (t .1))) (h (2 * l) (omega arith)) (h (2 * l + 1) (omega arith))))
+      es
 
 pub replay-append : (us vs : List Op) (m : Meaning) → replay (us ++ vs) m ≡ replay vs (replay us m)
 replay-append [] vs m = refl
-replay-append (u ∷ us) vs m = replay-append us vs (written m (u .0) (u .1))
+replay-append (u ∷ us) vs m = replay-append us vs (apply u m)

@@ -6,70 +6,93 @@ use Prim.Native.Nat.{ℕ, zero, suc, _+_, _-_, _*_, _<_, _≤_}
 use native.Mathlib.Omega.{arith}
 use lib.ListN.{length, getD, take, drop}
 use lib.Dec.{eqb, ltb}
-use Rattle.std.proofs.shelf.Tests.{eq-eqb, ne-eqb}
+use Rattle.std.proofs.shelf.Tests.{cond-both}
 use Rattle.std.specs.declared.option.Option.{Option}
 use Rattle.std.specs.declared.option.Option.the-variants.{Some}
-use Rattle.device.specs.Meaning.{Meaning, blocksOf}
+use Rattle.device.specs.Meaning.{Meaning, blocksOf, currentAt}
 use Rattle.tree.specs.Node.{first, Every, mapE}
-use Rattle.tree.specs.Tree.{Pay, Tree, Root, Wf, only}
-use Rattle.tree.specs.Stored.{IsPut}
-use Rattle.tree.proofs.Steps.{Old}
-use Rattle.page.specs.Block.{Block, blockAt, kidsOf, encode, Layout}
-use Rattle.counts.specs.Counts.{one, occ, Counted}
-use Rattle.counts.proofs.Parents.{one-same}
-use Rattle.counts.proofs.Opens.{recount, kids-alive}
-use Rattle.edit.specs.Plan.{shallow, page, nodeOf, kids, Stored, chosen, parted, placed, putN, kidN, moves, putRootN}
-use Rattle.counts.specs.Moves.{Move, linking, State, stateOf, step, run, Laid}
-use Rattle.edit.specs.Able.{Ready, Able, Made}
-use Rattle.counts.specs.Moves.{Wide}
-use Rattle.edit.specs.Kept.{Free, Kept, Stands}
-use Rattle.edit.specs.Trees.{Op, replay, Places, unused, Rooted, Grown}
-use Rattle.edit.proofs.States.{Same, same-by}
+use Rattle.tree.specs.Tree.{Pay, Tree, Wf, All, only}
+use Rattle.tree.proofs.Puts.{five-high}
+use Rattle.tree.proofs.Stores.{all-both}
+use Rattle.page.specs.Block.{Block, blockAt, blockIn, encode, Layout}
+use Rattle.page.specs.Slot.{Root}
+use Rattle.counts.specs.Counts.{one, occ, Counted, freeBlocks}
+use Rattle.counts.specs.Moves.{Move, linking, State, stateOf, step, run, Laid, Wide}
+use Rattle.counts.proofs.Opens.{recount}
+use Rattle.model.specs.TreeBlocks as model
+use Rattle.model.specs.TreeBlocks.{Change.puts, changedOn, newBlocks, blockOf, rootOf, Each}
+use Rattle.model.proofs.TreeLaws.{grow-wf}
+use Rattle.edit.specs.Plan.{page, nodeOf, kids, Stored, chosen, parted, placed, putN, moves, putRootN}
+use Rattle.edit.specs.Able.{Ready, Made}
+use Rattle.edit.specs.Kept.{Free, Stands}
+use Rattle.edit.specs.Edited.{Edited}
+use Rattle.edit.proofs.States.{same-by, run-same, run-append}
 use Rattle.edit.proofs.Anyhow.{moves-writes}
-use Rattle.edit.proofs.Keeps.{keeps, link-counted, link-stored, link-cells, link-counts}
-use Rattle.edit.proofs.Puts.{root-is, root-low}
-use Rattle.edit.proofs.Traces.{ops, run-replay, moves-places, places-append, places-up, replay-append}
+use Rattle.edit.proofs.Keeps.{keeps, link-counted, link-stored}
+use Rattle.edit.proofs.Traces.{linked, linked-append, ops, run-replay, ops-targets, ops-free, moves-each, each-linked}
+use Rattle.edit.proofs.Changing.{root-numbers, root-one, root-more}
 
--- the blocks of a tree that is held are in use
-olds : (m : Meaning) (cs : List ℕ) (h : ℕ → ℕ) → Counted (blockAt m) cs h → (l : ℕ) (es : List (ℕ × Pay ℕ ℕ l)) → ((b : ℕ) → 0 < occ b (kids l es) → 0 < getD cs b 0) → Every (Stored (blockAt m) l) es → Every (Old ℕ (unused cs) l) es
-olds m cs h c zero [] a p = tt
-olds m cs h c zero (e ∷ r) a p = (tt, olds m cs h c zero r a (p .1))
-olds m cs h c (suc l) es a p = go (olds m cs h c l) es a p
+-- what a block holds, in the words of the plan and of the model
+block-is : (l : ℕ) (t : Tree ℕ ℕ l) → nodeOf l (t .1) ≡ blockOf l t
+block-is zero t = ap (page zero) (go (t .1))
   where
-    go : ((es : List (ℕ × Pay ℕ ℕ l)) → ((b : ℕ) → 0 < occ b (kids l es) → 0 < getD cs b 0) → Every (Stored (blockAt m) l) es → Every (Old ℕ (unused cs) l) es)
-        → (es : List (ℕ × Tree ℕ ℕ l)) → ((b : ℕ) → 0 < occ b (kids (suc l) es) → 0 < getD cs b 0) → Every (Stored (blockAt m) (suc l)) es → Every (Old ℕ (unused cs) (suc l)) es
-    go ih [] a p = tt
-    go ih (e ∷ r) a p =
-        let x = e .1 .0 in
-        let ax : 0 < getD cs x 0 = a x (omega (arith, one-same x x refl)) in
-        let st = p .0 .0 in (
-          (
-            ne-eqb (getD cs x 0) 0 (λ z. omega arith),
-            ih (e .1 .1) (λ b q. kids-alive m cs h x b c ax (subst (λ (o : Option Block). 0 < occ b (kidsOf o)) (sym st) q)) (p .0 .1),
-          ),
-          go ih r (λ b q. a b (omega arith)) (p .1),
-        )
+    go : (es : List (ℕ × ℕ)) → es ≡ mapE (λ p. p) es
+    go [] = refl
+    go (e ∷ r) = ap (λ (z : List (ℕ × ℕ)). e ∷ z) (go r)
+block-is (suc l) t = refl
 
--- a root above the entries, or the only one of these
-crown-one : (l x : ℕ) (us : List (ℕ × Tree ℕ ℕ l)) (d : ℕ × Tree ℕ ℕ l) → length us ≡ 1 → us ≡ getD us 0 d ∷ []
-crown-one l x [] d n = absurd (omega arith)
-crown-one l x (e ∷ []) d n = refl
-crown-one l x (e ∷ f ∷ r) d n = absurd (omega arith)
+pub to-model : (m : Meaning) (t : model.Tree) → Stored (blockAt m) (suc (t .0)) (t .1) → model.Stored (currentAt m) t
+unfolding blockAt
+to-model m t a =
+    all-both ℕ ℕ (λ i u. blockAt m (u .0) ≡ Some (nodeOf i (u .1))) (λ i u. blockAt m (u .0) ≡ Some (nodeOf i (u .1))) (λ i u. blockIn (currentAt m (u .0)) ≡ Some (blockOf i u))
+    (λ i u p q. p ∙ ap Some (block-is i u)) (suc (t .0)) (t .1) a a
 
-crown-more : (l x : ℕ) (us : List (ℕ × Tree ℕ ℕ l)) → 1 < length us → only ℕ ℕ l x us ≡ (suc l, (x, us))
-crown-more l x [] n = absurd (omega arith)
-crown-more l x (e ∷ []) n = absurd (omega arith)
-crown-more l x (e ∷ f ∷ r) n = refl
+pub from-model : (m : Meaning) (t : model.Tree) → model.Stored (currentAt m) t → Stored (blockAt m) (suc (t .0)) (t .1)
+unfolding blockAt
+from-model m t a =
+    all-both ℕ ℕ (λ i u. blockIn (currentAt m (u .0)) ≡ Some (blockOf i u)) (λ i u. blockIn (currentAt m (u .0)) ≡ Some (blockOf i u)) (λ i u. blockAt m (u .0) ≡ Some (nodeOf i (u .1)))
+    (λ i u p q. p ∙ ap Some (sym (block-is i u))) (suc (t .0)) (t .1) a a
 
-some-parts : {X : Type 0} (x y s k : ℕ) (es made : List (ℕ × X)) → 1 ≤ length (placed x y (parted s k es made) ++ [])
-some-parts {X} x y s k es made = go (eqb (length es) 15) (ltb s (first (drop 7 es)))
-  where
-    go : (b d : Bool) → 1 ≤ length {A = ℕ × (ℕ × List (ℕ × X))} (placed x y (cond b (cond d ((k, made) ∷ (first (drop 7 es), drop 7 es) ∷ []) ((k, take 7 es) ∷ (first (drop 7 es), made) ∷ [])) ((k, made) ∷ [])) ++ [])
-    go true true = omega arith
-    go true false = omega arith
-    go false d = omega arith
+-- what a free block is at the start of a call
+abbrev pub Spare : Meaning → List ℕ → ℕ → Type 0
+Spare m cs b = (2 ≤ b) × (b < blocksOf m) × (getD cs b 0 ≡ 0)
 
-module _ (m : Meaning) (cs gs : List ℕ) (block level s : ℕ) (r : Root ℕ ℕ) (h : ℕ → ℕ) (p : Rooted m cs gs block level s r h) where
+-- Someone holds the tree r at this root, and others hold h; the grant gs has the lowest free blocks.
+pub record Rooted (m : Meaning) (cs gs : List ℕ) (root : Root) (s : ℕ) (r : model.Tree) (h : ℕ → ℕ) : Type 0 where
+  pub height : suc (r .0) ≡ root .0
+  pub at : r .1 .0 ≡ root .1
+  pub stored : Stored (blockAt m) (suc (r .0)) (r .1)
+  pub wf : Wf ℕ ℕ (r .0) (r .1)
+  pub counted : Counted (blockAt m) cs (λ b. one (r .1 .0) b + h b)
+  pub modest : (b : ℕ) → h b ≤ 1000
+  pub few : length cs ≤ 4096
+  pub free : Free m cs gs (2 * suc (r .0) + 1)
+  pub slots : (j : ℕ) → j < 2 * suc (r .0) + 1 → 2 ≤ getD gs j 0
+  pub lowest : (j : ℕ) → j < 2 * suc (r .0) + 1 → getD gs j 0 ≡ getD (freeBlocks cs) j 0
+  pub left : 2 * suc (r .0) + 1 ≤ m .left
+  pub wide : Wide m
+  pub speed : s < 10000
+
+-- the only one of the entries, or more of them
+only-one : (l : ℕ) (us : List (ℕ × Tree ℕ ℕ l)) (d : ℕ × Tree ℕ ℕ l) → length us ≡ 1 → us ≡ getD us 0 d ∷ []
+only-one l [] d n = absurd (omega arith)
+only-one l (e ∷ []) d n = refl
+only-one l (e ∷ f ∷ r) d n = absurd (omega arith)
+
+only-more : (l x : ℕ) (us : List (ℕ × Tree ℕ ℕ l)) → 1 < length us → only ℕ ℕ l x us ≡ (suc l, (x, us))
+only-more l x [] n = absurd (omega arith)
+only-more l x (e ∷ []) n = absurd (omega arith)
+only-more l x (e ∷ f ∷ r) n = refl
+
+-- there is a part, and the first one has the first number
+first-part : {X : Type 0} (x y s k : ℕ) (es made : List (ℕ × X)) (d : ℕ × (ℕ × List (ℕ × X)))
+    → (1 ≤ length (placed x y (parted s k es made) ++ [])) × (getD (placed x y (parted s k es made) ++ []) 0 d .1 .0 ≡ x)
+first-part {X} x y s k es made d =
+    cond-both (eqb (length es) 15) _ _ (λ (ps : List (ℕ × List (ℕ × X))). (1 ≤ length (placed x y ps ++ [])) × (getD (placed x y ps ++ []) 0 d .1 .0 ≡ x))
+    (λ b. cond-both (ltb s (first (drop 7 es))) _ _ (λ (ps : List (ℕ × List (ℕ × X))). (1 ≤ length (placed x y ps ++ [])) × (getD (placed x y ps ++ []) 0 d .1 .0 ≡ x)) (λ c. (omega arith, refl)) (λ c. (omega arith, refl)))
+    (λ b. (omega arith, refl))
+
+module _ (m : Meaning) (cs gs : List ℕ) (root : Root) (s : ℕ) (r : model.Tree) (h : ℕ → ℕ) (p : Rooted m cs gs root s r h) where
   abbrev l : ℕ
   l = r .0
 
@@ -85,11 +108,11 @@ module _ (m : Meaning) (cs gs : List ℕ) (block level s : ℕ) (r : Root ℕ �
   above : Counted (blockAt m) cs (λ b. occ b (kids (suc l) es) + h b)
   above = recount (λ b. one (t .0) b + h b) (λ b. occ b (kids (suc l) es) + h b) (λ b. omega arith) (p .counted)
 
-  low : l ≤ 4 → suc l ≤ 5
-  low q = omega arith
+  pub low : l ≤ 4
+  low = five-high ℕ ℕ l t (p .wf)
 
-  pub top-ready : level < 5 → (n : Block) → n .level ≡ level + 1 → n .entries ≡ (0, block) ∷ [] → Ready m cs gs n s (suc l) es
-  top-ready k n v e = record {
+  pub top-ready : (n : Block) → n .level ≡ root .0 → n .entries ≡ (0, root .1) ∷ [] → Ready m cs gs n s (suc l) es
+  top-ready n v e = record {
     is = ap₂ page (omega (arith, v, p .height)) (e ∙ ap (λ (b : ℕ). (0, b) ∷ []) (sym (p .at)));
     stored = (p .stored, tt);
     lo = 0;
@@ -101,113 +124,141 @@ module _ (m : Meaning) (cs gs : List ℕ) (block level s : ℕ) (r : Root ℕ �
     enough = λ z. omega arith;
     others = h;
     counted = above;
-    modest = λ b. omega (arith, p .modest b, p .height);
+    modest = λ b. omega (arith, p .modest b, low);
     few = p .few;
     left = omega (arith, p .left);
-    places = λ j lt. p .free .on j (omega arith);
+    free = record { count = λ j lt. p .free .count j (omega arith); on = λ j lt. p .free .on j (omega arith); apart = λ i j k lt. p .free .apart i j k (omega arith) };
     wide = p .wide;
   }
 
-  old : Old ℕ (unused cs) (suc l) t
-  old = olds m cs (λ b. occ b (kids (suc l) es) + h b) above (suc l) es (λ b q. omega (arith, above .eqn b)) (p .stored, tt) .0
+  spare : (j : ℕ) → j < N → Spare m cs (getD gs j 0)
+  spare j lt = (p .slots j lt, p .free .on j lt .0, p .free .count j lt)
 
-  fresh : (j : ℕ) → j < N → unused cs (getD gs j 0) ≡ true
-  fresh j lt = eq-eqb (getD cs (getD gs j 0) 0) 0 (p .free .count j lt)
-
-  module _ (a : ℕ) (q : State) (made : Block) (M : Made m cs (q .0) (q .1) gs s a (suc l) es made) where
+  module _ (a : ℕ) where
     abbrev us : List (ℕ × Tree ℕ ℕ l)
     us = putN gs s a (suc l) es
 
-    abbrev q₁ : State
-    q₁ = run (moves gs s a (suc l) es) (stateOf m cs)
+    abbrev ms : List Move
+    ms = moves gs s a (suc l) es
 
-    len : length (made .entries) ≡ length us
-    len = ap (λ (x : Block). length (x .entries)) (M .is) ∙ map-len us
-      where
-        map-len : {X : Type 0} (xs : List (ℕ × (ℕ × X))) → length (mapE (λ c. c .0) xs) ≡ length xs
-        map-len [] = refl
-        map-len (x ∷ xs) = ap suc (map-len xs)
+    abbrev q₀ : State
+    q₀ = stateOf m cs
 
-    some : 1 ≤ length us
-    some = some-parts (getD gs (2 * l) 0) (getD gs (2 * l + 1) 0) s 0 (t .1) (putN gs s a l (chosen s (t .1)))
+    abbrev u : model.Tree
+    u = changedOn ℕ (puts s a) (freeBlocks cs) r
 
-    pub many : (length (made .entries) ≡ 1 → ⊥) → 1 < length (made .entries)
-    many n = omega (arith, n, len, some)
+    new-is : putRootN gs s a r ≡ u
+    unfolding changedOn
+    new-is = root-numbers (λ i. getD (freeBlocks cs) i 0) gs s a r (p .lowest)
 
-    S : Stands gs (suc l) h (stateOf m cs) q₁ us
-    S = keeps gs s a N (suc l) es (stateOf m cs) h (p .stored, tt) above (p .free) (omega arith) (M .laid)
+    -- moves that leave a tree v, which is the new one
+    edited-by : (v : model.Tree) (vs : List Move) → v ≡ u → Each (Spare m cs) (linked vs) → ((b : ℕ) → occ b (linked vs) ≡ occ b (newBlocks (puts s a) (freeBlocks cs) r))
+        → Stored (blockAt (run vs q₀ .0)) (suc (v .0)) (v .1) → Counted (blockAt (run vs q₀ .0)) (run vs q₀ .1) (λ b. one (v .1 .0) b + h b) → (q : State) → q ≡ run vs q₀ → Edited (puts s a) r m cs (q .0) (q .1)
+    edited-by v vs e free once st ct q eq =
+        let z : State = run vs q₀ in
+        let cu : Counted (blockAt (z .0)) (z .1) (λ b. one (u .1 .0) b + h b) = subst (λ (v : model.Tree). Counted (blockAt (z .0)) (z .1) (λ b. one (v .1 .0) b + h b)) e ct in
+        subst (λ (z : State). Edited (puts s a) r m cs (z .0) (z .1)) (sym eq) (record {
+          os = ops (m .width) vs;
+          trace = run-replay vs q₀;
+          free = ops-free m cs (m .width) vs free;
+          once = λ b. ap (occ b) (ops-targets (m .width) vs) ∙ once b;
+          stored = subst (model.Stored (currentAt (z .0))) e (to-model (z .0) v st);
+          counted = λ h′ c. recount (λ b. one (u .1 .0) b + h b) (λ b. one (u .1 .0) b + h′ b) (λ b. omega (arith, c .eqn b, p .counted .eqn b)) cu;
+          sized = run-same vs q₀ .counts;
+        })
 
-    pub one-grown : length (made .entries) ≡ 1 → (b : ℕ) → getD (made .entries) 0 (0, 0) .1 ≡ b → Grown m cs (q .0) (q .1) gs b level s a r h (putRootN gs s a r)
-    one-grown n b e =
-        let d : ℕ × Tree ℕ ℕ l = (0, (0, [])) in
-        let x = getD gs (2 * suc l) 0 in
-        let o = getD us 0 d in
-        let one-is : us ≡ o ∷ [] = crown-one l x us d (omega (arith, len)) in
-        let u-is : putRootN gs s a r ≡ (l, o .1) = ap (only ℕ ℕ l x) one-is in
-        let is-put = root-is (unused cs) gs s a r fresh old in
-        let num : getD (made .entries) 0 (0, 0) .1 ≡ o .1 .0 = ap (λ (z : Block). getD (z .entries) 0 (0, 0) .1) (M .is) ∙ ap (λ (z : List (ℕ × Tree ℕ ℕ l)). getD (mapE (λ c. c .0) z) 0 (0, 0) .1) one-is in
-        let st : Every (Stored (blockAt (q₁ .0)) (suc l)) (o ∷ []) = subst (Every (Stored (blockAt (q₁ .0)) (suc l))) one-is (S .stored) in
-        let ct : Counted (blockAt (q₁ .0)) (q₁ .1) (λ b. occ b (kids (suc l) (o ∷ [])) + h b) = subst (λ (z : List (ℕ × Tree ℕ ℕ l)). Counted (blockAt (q₁ .0)) (q₁ .1) (λ b. occ b (kids (suc l) z) + h b)) one-is (S .counted) in
-        let G : Grown m cs (q₁ .0) (q₁ .1) gs b level s a r h (l, o .1) = record {
-          height = p .height;
-          at = sym num ∙ e;
-          put = subst (λ (u : Root ℕ ℕ). IsPut (unused cs) s a r u) u-is is-put;
-          stored = st .0;
-          counted = recount (λ b. occ b (kids (suc l) (o ∷ [])) + h b) (λ b. one (o .1 .0) b + h b) (λ b. omega arith) ct;
-          kept = record { cells = λ b out. S .kept .cells b (λ j lt. out j (omega arith)); free = λ b out. S .kept .free b (λ j lt. out j (omega arith)) };
-          os = ops (m .width) (moves gs s a (suc l) es);
-          trace = run-replay (moves gs s a (suc l) es) (stateOf m cs);
-          places = places-up gs 0 (2 * suc l) N (ops (m .width) (moves gs s a (suc l) es)) (omega arith) (moves-places gs (m .width) s a (suc l) es);
-        } in
-        subst (λ (u : Root ℕ ℕ). Grown m cs (q .0) (q .1) gs b level s a r h u) (sym u-is) (subst (λ (z : State). Grown m cs (z .0) (z .1) gs b level s a r h (l, o .1)) (sym (M .state)) G)
+    module _ (q : State) (made : Block) (M : Made m cs (q .0) (q .1) gs s a (suc l) es made) where
+      len : length (made .entries) ≡ length us
+      len = ap (λ (x : Block). length (x .entries)) (M .is) ∙ map-len us
+        where
+          map-len : {X : Type 0} (xs : List (ℕ × (ℕ × X))) → length (mapE (λ c. c .0) xs) ≡ length xs
+          map-len [] = refl
+          map-len (x ∷ xs) = ap suc (map-len xs)
 
-    -- more than one: they go below a new root
-    module _ (more : 1 < length (made .entries)) where
-      u-is : putRootN gs s a r ≡ (suc l, (getD gs (2 * suc l) 0, us))
-      u-is = crown-more l (getD gs (2 * suc l) 0) us (omega (arith, len))
+      abbrev none : ℕ × Tree ℕ ℕ l
+      none = (0, (0, []))
 
-      pub link-able : (Wide (q .0)) × (getD gs (2 * suc l) 0 < blocksOf (q .0)) × (getD gs (2 * suc l) 0 < length (q .1)) × (0 < q .0 .left) × (made .level < 5) × (made .level ≡ suc l)
-      link-able =
-          let z = same-by (moves gs s a (suc l) es) (stateOf m cs) q (M .state) in
-          let w = moves-writes gs s a (suc l) es in
-          let o = p .free .on (2 * suc l) (omega arith) in
-          let lv : made .level ≡ suc l = ap (λ (x : Block). x .level) (M .is) in
-          let five = root-low (unused cs) gs s a r (p .speed) (p .wf) fresh old in (
-            (omega (arith, z .width, p .wide .0), omega (arith, z .width, p .wide .1)),
-            omega (arith, z .blocks, o .0),
-            omega (arith, z .counts, o .1),
-            omega (arith, z .left, w, p .left),
-            omega (arith, lv, five, ap (λ (u : Root ℕ ℕ). u .0) u-is),
-            lv,
-          )
+      front : (1 ≤ length us) × (getD us 0 none .1 .0 ≡ getD gs (2 * l) 0)
+      front = first-part (getD gs (2 * l) 0) (getD gs (2 * l + 1) 0) s 0 (t .1) (putN gs s a l (chosen s (t .1))) none
 
-      pub more-grown : (b : ℕ) → b ≡ getD gs (2 * suc l) 0 → (q′ : State) → q′ ≡ step (linking b made) q → Layout (q .0 .width) made → Grown m cs (q′ .0) (q′ .1) gs b (level + 1) s a r h (putRootN gs s a r)
-      more-grown b e q′ e′ laid =
-          let x = getD gs (2 * suc l) 0 in
-          let z = same-by (moves gs s a (suc l) es) (stateOf m cs) q₁ refl in
-          let o = p .free .on (2 * suc l) (omega arith) in
-          let far : (j : ℕ) → j < 2 * suc l → x ≡ getD gs j 0 → ⊥ = λ j lt e. p .free .apart j (2 * suc l) lt (omega arith) (sym e) in
-          let fx = S .kept .free x far (p .free .count (2 * suc l) (omega arith)) in
-          let wx : x < length (q₁ .1) = omega (arith, z .counts, o .1) in
-          let ox : x < blocksOf (q₁ .0) = omega (arith, z .blocks, o .0) in
-          let ly : Layout (q₁ .0 .width) (nodeOf (suc l) us) = subst (Layout (q₁ .0 .width)) (M .is) (subst (λ (y : State). Layout (y .0 .width) made) (M .state) laid) in
-          let q₂ : State = step (linking x (nodeOf (suc l) us)) q₁ in
-          let is-put = root-is (unused cs) gs s a r fresh old in
-          let ms = moves gs s a (suc l) es in
-          let last : Op = (x, encode (q₁ .0 .width) (nodeOf (suc l) us)) in
-          let G : Grown m cs (q₂ .0) (q₂ .1) gs b (level + 1) s a r h (suc l, (x, us)) = record {
-            height = omega (arith, p .height);
-            at = sym e;
-            put = subst (λ (u : Root ℕ ℕ). IsPut (unused cs) s a r u) u-is is-put;
-            stored = link-stored q₁ x (suc l) us h fx wx ox ly (S .stored) (S .counted);
-            counted = link-counted q₁ x (suc l) us h fx wx ox ly (S .stored) (S .counted);
-            kept = record {
-              cells = λ c out. link-cells q₁ x (suc l) us h fx wx ox ly (S .stored) (S .counted) c (out (2 * suc l) (omega arith)) ∙ S .kept .cells c (λ j lt. out j (omega arith));
-              free = λ c out v. link-counts q₁ x (suc l) us h fx wx ox ly (S .stored) (S .counted) c (out (2 * suc l) (omega arith)) ∙ S .kept .free c (λ j lt. out j (omega arith)) v;
-            };
-            os = ops (m .width) ms ++ last ∷ [];
-            trace = ap (λ (k : Meaning). replay (last ∷ []) k) (run-replay ms (stateOf m cs)) ∙ sym (replay-append (ops (m .width) ms) (last ∷ []) m);
-            places = places-append gs 0 (2 * suc l) N (ops (m .width) ms) (last ∷ []) (moves-places gs (m .width) s a (suc l) es) (2 * suc l, omega arith, refl, omega arith);
-          } in
-          let to : q′ ≡ q₂ = e′ ∙ ap (λ (y : ℕ). step (linking y made) q) e ∙ ap (λ (n : Block). step (linking x n) q) (M .is) ∙ ap (step (linking x (nodeOf (suc l) us))) (M .state) in
-          subst (λ (u : Root ℕ ℕ). Grown m cs (q′ .0) (q′ .1) gs b (level + 1) s a r h u) (sym u-is) (subst (λ (y : State). Grown m cs (y .0) (y .1) gs b (level + 1) s a r h (suc l, (x, us))) (sym to) G)
+      pub many : (length (made .entries) ≡ 1 → ⊥) → 1 < length (made .entries)
+      many n = omega (arith, n, len, front .0)
+
+      S : Stands gs (suc l) h q₀ (run ms q₀) us
+      S = keeps gs s a N (suc l) es q₀ h (p .stored, tt) above (p .free) (omega arith) (M .laid)
+
+      module _ (n : length (made .entries) ≡ 1) (b : ℕ) (e : getD (made .entries) 0 (0, 0) .1 ≡ b) where
+        abbrev o : ℕ × Tree ℕ ℕ l
+        o = getD us 0 none
+
+        one-is : us ≡ o ∷ []
+        one-is = only-one l us none (omega (arith, len))
+
+        u-one : (l, o .1) ≡ u
+        u-one = sym (ap (only ℕ ℕ l (getD gs (2 * suc l) 0)) one-is) ∙ new-is
+
+        number : b ≡ o .1 .0
+        number = sym e ∙ ap (λ (z : Block). getD (z .entries) 0 (0, 0) .1) (M .is) ∙ ap (λ (z : List (ℕ × Tree ℕ ℕ l)). getD (mapE (λ c. c .0) z) 0 (0, 0) .1) one-is
+
+        pub one-small : b < 65536
+        one-small = omega (arith, number, front .1, p .free .on (2 * l) (omega arith) .1, p .few)
+
+        pub one-root : (root .0, b) ≡ rootOf u
+        one-root = ap₂ (λ (x y : ℕ). (x, y)) (sym (p .height)) number ∙ ap (λ (v : model.Tree). rootOf v) u-one
+
+        pub one-edited : Edited (puts s a) r m cs (q .0) (q .1)
+        one-edited =
+            let q₁ : State = run ms q₀ in
+            let st : Every (Stored (blockAt (q₁ .0)) (suc l)) (o ∷ []) = subst (Every (Stored (blockAt (q₁ .0)) (suc l))) one-is (S .stored) in
+            let ct : Counted (blockAt (q₁ .0)) (q₁ .1) (λ b. occ b (kids (suc l) (o ∷ [])) + h b) = subst (λ (z : List (ℕ × Tree ℕ ℕ l)). Counted (blockAt (q₁ .0)) (q₁ .1) (λ b. occ b (kids (suc l) z) + h b)) one-is (S .counted) in
+            edited-by (l, o .1) ms u-one (moves-each gs (Spare m cs) s a (suc l) es (λ j lt. spare j (omega arith)))
+            (λ c. root-one (λ i. getD (freeBlocks cs) i 0) gs s a r (p .lowest) c (omega (arith, len)))
+            (st .0) (recount (λ b. occ b (kids (suc l) (o ∷ [])) + h b) (λ b. one (o .1 .0) b + h b) (λ b. omega arith) ct) q (M .state)
+
+      -- more than one: they go below a new root
+      module _ (more : 1 < length (made .entries)) where
+        abbrev x : ℕ
+        x = getD gs (2 * suc l) 0
+
+        u-more : (suc l, (x, us)) ≡ u
+        u-more = sym (only-more l x us (omega (arith, len))) ∙ new-is
+
+        -- the new root can be written
+        pub link-able : a ≤ 18000 → (Wide (q .0)) × (x < blocksOf (q .0)) × (x < length (q .1)) × (0 < q .0 .left) × (made .level < 5) × (x < 65536)
+        link-able k =
+            let z = same-by ms q₀ q (M .state) in
+            let o = p .free .on (2 * suc l) (omega arith) in
+            let lv : made .level ≡ suc l = ap (λ (x : Block). x .level) (M .is) in
+            let w = subst (λ (v : model.Tree). Wf ℕ ℕ (v .0) (v .1)) (sym u-more) (grow-wf (puts s a) (freeBlocks cs) r (p .speed, k) (p .wf)) in
+            let five = five-high ℕ ℕ (suc l) (x, us) w in (
+              (omega (arith, z .width, p .wide .0), omega (arith, z .width, p .wide .1)),
+              omega (arith, z .blocks, o .0),
+              omega (arith, z .counts, o .1),
+              omega (arith, z .left, moves-writes gs s a (suc l) es, p .left),
+              omega (arith, lv, five),
+              omega (arith, o .1, p .few),
+            )
+
+        pub more-root : (b : ℕ) → b ≡ x → (root .0 + 1, b) ≡ rootOf u
+        more-root b e = ap₂ (λ (x y : ℕ). (x, y)) (omega (arith, p .height)) e ∙ ap (λ (v : model.Tree). rootOf v) u-more
+
+        pub more-edited : (b : ℕ) → b ≡ x → (q′ : State) → q′ ≡ step (linking b made) q → Layout (q .0 .width) made → Edited (puts s a) r m cs (q′ .0) (q′ .1)
+        more-edited b e q′ e′ laid =
+            let q₁ : State = run ms q₀ in
+            let top : List Move = linking x (nodeOf (suc l) us) ∷ [] in
+            let z = same-by ms q₀ q₁ refl in
+            let o = p .free .on (2 * suc l) (omega arith) in
+            let far : (j : ℕ) → j < 2 * suc l → x ≡ getD gs j 0 → ⊥ = λ j lt e. p .free .apart j (2 * suc l) lt (omega arith) (sym e) in
+            let fx = S .kept .free x far (p .free .count (2 * suc l) (omega arith)) in
+            let wx : x < length (q₁ .1) = omega (arith, z .counts, o .1) in
+            let ox : x < blocksOf (q₁ .0) = omega (arith, z .blocks, o .0) in
+            let ly : Layout (q₁ .0 .width) (nodeOf (suc l) us) = subst (Layout (q₁ .0 .width)) (M .is) (subst (λ (y : State). Layout (y .0 .width) made) (M .state) laid) in
+            let q₂ : State = step (linking x (nodeOf (suc l) us)) q₁ in
+            let end : run (ms ++ top) q₀ ≡ q₂ = run-append ms top q₀ in
+            let to : q′ ≡ q₂ = e′ ∙ ap (λ (y : ℕ). step (linking y made) q) e ∙ ap (λ (n : Block). step (linking x n) q) (M .is) ∙ ap (step (linking x (nodeOf (suc l) us))) (M .state) in
+            edited-by (suc l, (x, us)) (ms ++ top) u-more
+            (each-linked gs (Spare m cs) ms top (moves-each gs (Spare m cs) s a (suc l) es (λ j lt. spare j (omega arith))) (spare (2 * suc l) (omega arith), tt))
+            (λ c. ap (occ c) (linked-append ms top) ∙ root-more (λ i. getD (freeBlocks cs) i 0) gs s a r (p .lowest) c (omega (arith, len)))
+            (subst (λ (y : State). Stored (blockAt (y .0)) (suc (suc l)) (x, us)) (sym end) (link-stored q₁ x (suc l) us h fx wx ox ly (S .stored) (S .counted)))
+            (subst (λ (y : State). Counted (blockAt (y .0)) (y .1) (λ b. one x b + h b)) (sym end) (link-counted q₁ x (suc l) us h fx wx ox ly (S .stored) (S .counted)))
+            q′ (to ∙ sym end)

@@ -7,15 +7,17 @@ ghost use Rattle.std.specs.Of.Vec.{vec-len, vec-items};
 ghost use Rattle.std.specs.Options.{isSome};
 ghost use Rattle.std.specs.Slices.{found};
 ghost use Rattle.std.specs.declared.option.Option.the-variants.{Some};
-ghost use Rattle.device.specs.Meaning.{Meaning, blocksOf, written};
+ghost use Rattle.device.specs.Meaning.{Meaning, blocksOf, currentAt};
 ghost use Rattle.tree.specs.Node.{mapE};
-ghost use Rattle.tree.specs.Tree.{Pay, Root as Tree-root};
+ghost use Rattle.tree.specs.Tree.{Pay};
 ghost use Rattle.page.specs.Block.{blockAt, kidsOf, Layout};
 ghost use Rattle.page.specs.View.{view, entries};
-ghost use Rattle.edit.specs.Plan.{parted, placed, links, putRootN};
+ghost use Rattle.edit.specs.Plan.{parted, placed, links};
 ghost use Rattle.counts.specs.Moves.{opening, linking, stateOf, step, run, Laid};
 ghost use Rattle.edit.specs.Remove.{Remove-keeps, Removes};
-ghost use Rattle.edit.specs.Trees.{Planted, Rooted, Grown};
+ghost use Rattle.counts.specs.Counts.{freeBlocks};
+ghost use Rattle.model.specs.TreeBlocks.{Change.begin, Change.puts, bareTree, changedOn, treeAt, rootOf};
+ghost use Rattle.edit.specs.Edited.{Counting, Editable, Granted, Edited};
 ghost use Rattle.edit.specs.Able.{Open, Able, Ready, Made};
 ghost use Rattle.counts.specs.Moves.{Wide, Owned};
 ghost use Rattle.edit.specs.Kids.{listed};
@@ -30,19 +32,13 @@ use kids::part_for;
 use kids::with_kids;
 use page::page::Entry;
 use page::page::Page;
+use page::roots::Root;
 
 pub fn remove_stands() -> u8
     ensures keeps { λ _. ⌜ Remove-keeps ⌝ }
     ensures removes { λ _. ⌜ Removes ⌝ }
 {
     0
-}
-
-// A tree: the block of its root, and the root's level.
-#[derive(Clone, Copy)]
-pub struct Root {
-    pub block: u32,
-    pub level: u32,
 }
 
 fn link_two<D: Device>(store: &mut Store<D>, left: u32, right: u32, lower: &Page, upper: &Page)
@@ -141,38 +137,55 @@ fn put_in<D: Device>(store: &mut Store<D>, grant: &mut Grant, page: &Page, row: 
     with_kids(page, i, kids)
 }
 
-// Puts a row into a tree that someone holds: the tree that results is held in its place, the old one no more.
+// Puts a row into a tree: the tree that results is held in its place. A full root is split, and gets a new root above.
 pub fn put_tree<D: Device>(store: &mut Store<D>, root: Root, row: Entry, grant: Grant) -> Root
     requires sound { ⌜ D·Device .sound (now store .device) ⌝ }
-    requires planted { ⌜ Planted (D·Device .meaning (now store .device)) (vec-items (now store .counts .of)) (grant .blocks) (root .block) (root .level) (row .speed) ⌝ }
-    requires start { ⌜ grant .next ≡ 0 ⌝ }
-    requires whole { ⌜ grant .len ≡ 2 * suc (root .level) + 1 ⌝ }
-    requires small { ⌜ root .block < 268435456 ⌝ ∗ ⌜ root .level < 5 ⌝ }
+    requires editable { ⌜ Editable (D·Device .meaning (now store .device)) (vec-items (now store .counts .of)) (root .height, root .block) ⌝ }
+    requires granted { ⌜ Granted (2 * root .height + 1) (D·Device .meaning (now store .device)) (vec-items (now store .counts .of)) grant ⌝ }
+    requires row { ⌜ row .speed < 10000 ⌝ ∗ ⌜ row .value ≤ 18000 ⌝ }
     ensures sound { λ _. ⌜ D·Device .sound (now (store .exit) .device) ⌝ }
-    ensures grown { λ u. ⌜ ((r : Tree-root ℕ ℕ) (h : ℕ → ℕ) → Rooted (D·Device .meaning (now (store .entry) .device)) (vec-items (now (store .entry) .counts .of)) (grant .blocks) (root .block) (root .level) (row .speed) r h → Grown (D·Device .meaning (now (store .entry) .device)) (vec-items (now (store .entry) .counts .of)) (D·Device .meaning (now (store .exit) .device)) (vec-items (now (store .exit) .counts .of)) (grant .blocks) (u .block) (u .level) (row .speed) (row .value) r h (putRootN (grant .blocks) (row .speed) (row .value) r)) ⌝ }
+    ensures root { λ r. ⌜ (r .height, r .block) ≡ rootOf (changedOn ℕ (puts (row .speed) (row .value)) (freeBlocks (vec-items (now (store .entry) .counts .of))) (treeAt (currentAt (D·Device .meaning (now (store .entry) .device))) (root .height, root .block))) ⌝ }
+    ensures edited { λ _. ⌜ Edited (puts (row .speed) (row .value)) (treeAt (currentAt (D·Device .meaning (now (store .entry) .device))) (root .height, root .block)) (D·Device .meaning (now (store .entry) .device)) (vec-items (now (store .entry) .counts .of)) (D·Device .meaning (now (store .exit) .device)) (vec-items (now (store .exit) .counts .of)) ⌝ }
 {
     let mut grant = grant;
-    let top = Page::single(
-        root.level + 1,
+    let above = Page::single(
+        root.height,
         Entry {
             speed: 0,
             value: root.block,
         },
     );
-    let made = put_in(store, &mut grant, &top, row);
+    let made = put_in(store, &mut grant, &above, row);
     if made.len == 1 {
         grant.give_back();
         grant.end();
         return Root {
+            height: root.height,
             block: made.items[0].value,
-            level: root.level,
         };
     }
     let block = grant.take();
     grant.end();
     store.link(block, &made);
     Root {
+        height: root.height + 1,
         block,
-        level: root.level + 1,
     }
+}
+
+// Makes a tree of one leaf with no row, and holds it.
+pub fn create_tree<D: Device>(store: &mut Store<D>, grant: Grant) -> Root
+    requires sound { ⌜ D·Device .sound (now store .device) ⌝ }
+    requires counting { ⌜ Counting (D·Device .meaning (now store .device)) (vec-items (now store .counts .of)) ⌝ }
+    requires granted { ⌜ Granted 1 (D·Device .meaning (now store .device)) (vec-items (now store .counts .of)) grant ⌝ }
+    ensures sound { λ _. ⌜ D·Device .sound (now (store .exit) .device) ⌝ }
+    ensures root { λ r. ⌜ (r .height, r .block) ≡ rootOf (changedOn ℕ begin (freeBlocks (vec-items (now (store .entry) .counts .of))) bareTree) ⌝ }
+    ensures edited { λ _. ⌜ Edited begin bareTree (D·Device .meaning (now (store .entry) .device)) (vec-items (now (store .entry) .counts .of)) (D·Device .meaning (now (store .exit) .device)) (vec-items (now (store .exit) .counts .of)) ⌝ }
+{
+    let mut grant = grant;
+    let block = grant.take();
+    grant.end();
+    let leaf = Page::empty(0);
+    store.link(block, &leaf);
+    Root { height: 1, block }
 }

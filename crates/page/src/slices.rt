@@ -6,7 +6,7 @@ ghost use lib.ListN.{length, getD, set, take, drop};
 ghost use Rattle.page.specs.Block.{same};
 
 // Whether two slices of one length hold the same words.
-pub fn same_words(a: &[u32], b: &[u32]) -> bool
+pub(crate) fn same_words(a: &[u32], b: &[u32]) -> bool
     requires { ⌜ length (now a) ≡ length (now b) ⌝ }
     ensures { λ r. ⌜ r ≡ same (now (a .entry)) (now (b .entry)) ⌝ }
 {
@@ -19,7 +19,7 @@ pub fn same_words(a: &[u32], b: &[u32]) -> bool
 }
 
 // Puts x at i among the first len elements, and moves those from i on one place up.
-pub fn insert_among<T: Copy>(s: &mut [T; 15], len: usize, i: usize, x: T)
+pub(crate) fn insert_among<T: Copy>(s: &mut [T; 15], len: usize, i: usize, x: T)
     requires within { ⌜ i ≤ len ⌝ }
     requires room { ⌜ len < 15 ⌝ }
     requires long { ⌜ length (now s) ≡ 15 ⌝ }
@@ -36,7 +36,7 @@ pub fn insert_among<T: Copy>(s: &mut [T; 15], len: usize, i: usize, x: T)
 }
 
 // Takes out the element at i among the first len, and moves those above it one place down.
-pub fn remove_among<T: Copy>(s: &mut [T; 15], len: usize, i: usize)
+pub(crate) fn remove_among<T: Copy>(s: &mut [T; 15], len: usize, i: usize)
     requires within { ⌜ i < len ⌝ }
     requires room { ⌜ len ≤ 15 ⌝ }
     requires long { ⌜ length (now s) ≡ 15 ⌝ }
