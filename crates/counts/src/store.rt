@@ -77,6 +77,7 @@ impl<D: Device> Store<D> {
         requires sound { ⌜ D·Device .sound (now self .device) ⌝ }
         requires on { ⌜ block < blocksOf (D·Device .meaning (now self .device)) ⌝ }
         requires within { ⌜ block < length (vec-items (now self .counts .of)) ⌝ }
+        requires free { ⌜ getD (vec-items (now self .counts .of)) block 0 ≡ 0 ⌝ }
         requires left { ⌜ 0 < D·Device .meaning (now self .device) .left ⌝ }
         requires fits { ⌜ length (now words) ≡ D·Device .meaning (now self .device) .width ⌝ }
         ensures sound { λ _. ⌜ D·Device .sound (now (self .exit) .device) ⌝ }
@@ -94,6 +95,7 @@ impl<D: Device> Store<D> {
         requires wide { ⌜ Wide (D·Device .meaning (now self .device)) ⌝ }
         requires on { ⌜ block < blocksOf (D·Device .meaning (now self .device)) ⌝ }
         requires within { ⌜ block < length (vec-items (now self .counts .of)) ⌝ }
+        requires free { ⌜ getD (vec-items (now self .counts .of)) block 0 ≡ 0 ⌝ }
         requires left { ⌜ 0 < D·Device .meaning (now self .device) .left ⌝ }
         requires low { ⌜ now page .level < 5 ⌝ }
         requires fits { ⌜ length (now buffer) ≡ D·Device .meaning (now self .device) .width ⌝ }
@@ -110,6 +112,7 @@ impl<D: Device> Store<D> {
         requires wide { ⌜ Wide (D·Device .meaning (now self .device)) ⌝ }
         requires on { ⌜ block < blocksOf (D·Device .meaning (now self .device)) ⌝ }
         requires within { ⌜ block < length (vec-items (now self .counts .of)) ⌝ }
+        requires free { ⌜ getD (vec-items (now self .counts .of)) block 0 ≡ 0 ⌝ }
         requires left { ⌜ 0 < D·Device .meaning (now self .device) .left ⌝ }
         requires low { ⌜ now page .level < 5 ⌝ }
         ensures sound { λ _. ⌜ D·Device .sound (now (self .exit) .device) ⌝ }

@@ -136,11 +136,15 @@ module _ (m : Meaning) (cs gs : List ℕ) (n : Block) (s : ℕ) where
             let far : (b : ℕ) → ((i : ℕ) → i < 2 * l → b ≡ getD gs i 0 → ⊥) → getD cs b 0 ≡ 0 → getD (q₂ .1) b 0 ≡ 0 = still-free l es p in (
               (omega (arith, r₁ .width, r₂ .width, p .wide .0), omega (arith, r₁ .width, r₂ .width, p .wide .1)),
               omega (arith, r₁ .left, r₂ .left, w, p .left),
-              record { left-on = omega (arith, r₁ .blocks, r₂ .blocks, pl .0); left-in = omega (arith, r₁ .counts, r₂ .counts, pl .1);
+              record {
+                left-on = omega (arith, r₁ .blocks, r₂ .blocks, pl .0);
+                left-in = omega (arith, r₁ .counts, r₂ .counts, pl .1);
                 left-free = far (getD gs j 0) (λ i lt e. p .free .apart i j (omega (arith, ej, lp)) (omega (arith, ej, lp)) (sym e)) (p .free .count j (omega (arith, ej, lp)));
                 right-free = far (getD gs (j + 1) 0) (λ i lt e. p .free .apart i (j + 1) (omega (arith, ej, lp)) (omega (arith, ej, lp)) (sym e)) (p .free .count (j + 1) (omega (arith, ej, lp)));
                 apart = p .free .apart j (j + 1) (omega arith) (omega (arith, ej, lp));
-                right-on = omega (arith, r₁ .blocks, r₂ .blocks, pr .0); right-in = omega (arith, r₁ .counts, r₂ .counts, pr .1) },
+                right-on = omega (arith, r₁ .blocks, r₂ .blocks, pr .0);
+                right-in = omega (arith, r₁ .counts, r₂ .counts, pr .1);
+              },
               ap (λ (x : Block). x .level) (M .is) ∙ sym (ap (λ (x : Block). x .level) (child-is l es p)),
               omega (arith, ap (λ (x : Block). x .level) (child-is l es p), ap (λ (x : Block). x .level) (p .is)),
             )

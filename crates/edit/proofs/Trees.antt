@@ -223,8 +223,12 @@ module _ (m : Meaning) (cs gs : List ℕ) (root : Root) (s : ℕ) (r : model.Tre
         u-more : (suc l, (x, us)) ≡ u
         u-more = sym (only-more l x us (omega (arith, len))) ∙ new-is
 
+        -- the block for it is still free
+        still-free : getD (run ms q₀ .1) x 0 ≡ 0
+        still-free = S .kept .free x (λ j lt e. p .free .apart j (2 * suc l) lt (omega arith) (sym e)) (p .free .count (2 * suc l) (omega arith))
+
         -- the new root can be written
-        pub link-able : a ≤ 18000 → (Wide (q .0)) × (x < blocksOf (q .0)) × (x < length (q .1)) × (0 < q .0 .left) × (made .level < 5) × (x < 65536)
+        pub link-able : a ≤ 18000 → (Wide (q .0)) × (x < blocksOf (q .0)) × (x < length (q .1)) × (0 < q .0 .left) × (made .level < 5) × (x < 65536) × (getD (q .1) x 0 ≡ 0)
         link-able k =
             let z = same-by ms q₀ q (M .state) in
             let o = p .free .on (2 * suc l) (omega arith) in
@@ -237,6 +241,7 @@ module _ (m : Meaning) (cs gs : List ℕ) (root : Root) (s : ℕ) (r : model.Tre
               omega (arith, z .left, moves-writes gs s a (suc l) es, p .left),
               omega (arith, lv, five),
               omega (arith, o .1, p .few),
+              ap (λ (y : State). getD (y .1) x 0) (M .state) ∙ still-free,
             )
 
         pub more-root : (b : ℕ) → b ≡ x → (root .0 + 1, b) ≡ rootOf u
@@ -248,8 +253,6 @@ module _ (m : Meaning) (cs gs : List ℕ) (root : Root) (s : ℕ) (r : model.Tre
             let top : List Move = linking x (nodeOf (suc l) us) ∷ [] in
             let z = same-by ms q₀ q₁ refl in
             let o = p .free .on (2 * suc l) (omega arith) in
-            let far : (j : ℕ) → j < 2 * suc l → x ≡ getD gs j 0 → ⊥ = λ j lt e. p .free .apart j (2 * suc l) lt (omega arith) (sym e) in
-            let fx = S .kept .free x far (p .free .count (2 * suc l) (omega arith)) in
             let wx : x < length (q₁ .1) = omega (arith, z .counts, o .1) in
             let ox : x < blocksOf (q₁ .0) = omega (arith, z .blocks, o .0) in
             let ly : Layout (q₁ .0 .width) (nodeOf (suc l) us) = subst (Layout (q₁ .0 .width)) (M .is) (subst (λ (y : State). Layout (y .0 .width) made) (M .state) laid) in
@@ -259,6 +262,6 @@ module _ (m : Meaning) (cs gs : List ℕ) (root : Root) (s : ℕ) (r : model.Tre
             edited-by (suc l, (x, us)) (ms ++ top) u-more
             (each-linked gs (Spare m cs) ms top (moves-each gs (Spare m cs) s a (suc l) es (λ j lt. spare j (omega arith))) (spare (2 * suc l) (omega arith), tt))
             (λ c. ap (occ c) (linked-append ms top) ∙ root-more (λ i. getD (freeBlocks cs) i 0) gs s a r (p .lowest) c (omega (arith, len)))
-            (subst (λ (y : State). Stored (blockAt (y .0)) (suc (suc l)) (x, us)) (sym end) (link-stored q₁ x (suc l) us h fx wx ox ly (S .stored) (S .counted)))
-            (subst (λ (y : State). Counted (blockAt (y .0)) (y .1) (λ b. one x b + h b)) (sym end) (link-counted q₁ x (suc l) us h fx wx ox ly (S .stored) (S .counted)))
+            (subst (λ (y : State). Stored (blockAt (y .0)) (suc (suc l)) (x, us)) (sym end) (link-stored q₁ x (suc l) us h still-free wx ox ly (S .stored) (S .counted)))
+            (subst (λ (y : State). Counted (blockAt (y .0)) (y .1) (λ b. one x b + h b)) (sym end) (link-counted q₁ x (suc l) us h still-free wx ox ly (S .stored) (S .counted)))
             q′ (to ∙ sym end)

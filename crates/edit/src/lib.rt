@@ -46,6 +46,8 @@ fn link_two<D: Device>(store: &mut Store<D>, left: u32, right: u32, lower: &Page
     requires wide { ⌜ Wide (D·Device .meaning (now store .device)) ⌝ }
     requires on { ⌜ left < blocksOf (D·Device .meaning (now store .device)) ⌝ ∗ ⌜ right < blocksOf (D·Device .meaning (now store .device)) ⌝ }
     requires within { ⌜ left < length (vec-items (now store .counts .of)) ⌝ ∗ ⌜ right < length (vec-items (now store .counts .of)) ⌝ }
+    requires free { ⌜ getD (vec-items (now store .counts .of)) left 0 ≡ 0 ⌝ ∗ ⌜ getD (vec-items (now store .counts .of)) right 0 ≡ 0 ⌝ }
+    requires apart { ⌜ (left ≡ right → ⊥) ⌝ }
     requires left { ⌜ 2 ≤ D·Device .meaning (now store .device) .left ⌝ }
     requires low { ⌜ now lower .level < 5 ⌝ ∗ ⌜ now upper .level < 5 ⌝ }
     ensures sound { λ _. ⌜ D·Device .sound (now (store .exit) .device) ⌝ }

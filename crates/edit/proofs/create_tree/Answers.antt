@@ -16,7 +16,7 @@ link-requires g c κs =
     let cs : List ℕ = vec-items (c .args .store .now .counts .of) in
     let L = leaf-able m cs (c .args .grant) (c .pre .counting) (c .pre .granted) in
     let b : c .take-block .result ≡ getD (c .args .grant .blocks) 0 0 = c .take-block .ensures .block ∙ ap (λ (i : ℕ). getD (c .args .grant .blocks) i 0) (c .pre .granted .start) in
-    record { sound = c .pre .sound; wide = c .pre .counting .wide; on = omega (arith, L .0, b); within = omega (arith, L .1, b); left = L .2; low = omega (arith, c .empty-leaf .ensures .level) }
+    record { sound = c .pre .sound; wide = c .pre .counting .wide; on = omega (arith, L .0, b); within = omega (arith, L .1, b); free = ap (λ (x : ℕ). getD cs x 0) b ∙ L .4; left = L .2; low = omega (arith, c .empty-leaf .ensures .level) }
 
 pub ghost-result : need.ghost-result
 ghost-result g c =

@@ -15,6 +15,55 @@ use Rattle.edit.proofs.Laying.{laid-out}
 use Rattle.edit.proofs.Parting.{By, by-one, by-low, by-high}
 use Rattle.edit.proofs.link_kids.Needs as need
 
+pub link-requires : need.link-requires
+link-requires g c κs =
+    let cs : List ℕ = vec-items (c .args .store .now .counts .of) in
+    let p = c .pre .places in
+    let left = c .take-left .ensures .block in
+    record {
+      sound = c .pre .sound;
+      wide = c .pre .wide;
+      on = omega (arith, p .left-on, left);
+      within = omega (arith, p .left-in, left);
+      free = ap (λ (b : ℕ). getD cs b 0) left ∙ p .left-free;
+      left = omega (arith, c .pre .left);
+      low = omega (arith, c .pre .level .0, c .pre .level .1);
+    }
+
+pub link-two-requires : need.link-two-requires
+link-two-requires g c κs =
+    let cs : List ℕ = vec-items (c .args .store .now .counts .of) in
+    let p = c .pre .places in
+    let left = c .take-left .ensures .block in
+    let right : c .take-right .result ≡ getD (c .args .grant .now .blocks) (c .args .grant .now .next + 1) 0 = c .take-right .ensures .block ∙ ap₂ (λ (gs : List ℕ) (j : ℕ). getD gs j 0) (c .take-left .ensures .blocks) (c .take-left .ensures .next) in
+    record {
+      sound = c .pre .sound;
+      wide = c .pre .wide;
+      on = (omega (arith, p .left-on, left), omega (arith, p .right-on, right));
+      within = (omega (arith, p .left-in, left), omega (arith, p .right-in, right));
+      free = (ap (λ (b : ℕ). getD cs b 0) left ∙ p .left-free, ap (λ (b : ℕ). getD cs b 0) right ∙ p .right-free);
+      apart = λ e. p .apart (sym left ∙ e ∙ right);
+      left = c .pre .left;
+      low = (omega (arith, c .pre .level .0, c .pre .level .1), omega (arith, c .pre .level .0, c .upper-upper .ensures .level));
+    }
+
+pub link-two-requires-2 : need.link-two-requires-2
+link-two-requires-2 g c κs =
+    let cs : List ℕ = vec-items (c .args .store .now .counts .of) in
+    let p = c .pre .places in
+    let left = c .take-left .ensures .block in
+    let right : c .take-right .result ≡ getD (c .args .grant .now .blocks) (c .args .grant .now .next + 1) 0 = c .take-right .ensures .block ∙ ap₂ (λ (gs : List ℕ) (j : ℕ). getD gs j 0) (c .take-left .ensures .blocks) (c .take-left .ensures .next) in
+    record {
+      sound = c .pre .sound;
+      wide = c .pre .wide;
+      on = (omega (arith, p .left-on, left), omega (arith, p .right-on, right));
+      within = (omega (arith, p .left-in, left), omega (arith, p .right-in, right));
+      free = (ap (λ (b : ℕ). getD cs b 0) left ∙ p .left-free, ap (λ (b : ℕ). getD cs b 0) right ∙ p .right-free);
+      apart = λ e. p .apart (sym left ∙ e ∙ right);
+      left = c .pre .left;
+      low = (omega (arith, c .pre .level .0, c .lower-lower .ensures .level), omega (arith, c .pre .level .0, c .pre .level .1));
+    }
+
 pub returns-then-child-lt15 : need.returns-then-child-lt15
 returns-then-child-lt15 g c =
     let q : State = stateOf (g .D·Device .meaning (c .args .store .now .device)) (vec-items (c .args .store .now .counts .of)) in

@@ -2,6 +2,8 @@ use mathlib.Core.Path.{_≡_, refl, sym, ap, ap₂, subst, _∙_}
 use mathlib.Core.List.{List, [], _∷_}
 use Prim.Native.Nat.{ℕ, _<_}
 use native.Mathlib.Omega.{arith}
+use lib.ListN.{getD}
+use Rattle.std.proofs.shelf.Lists.{getD-set-other}
 use borrow.Author.Needs.{needs}
 use Rattle.std.specs.Of.Vec.{vec-items}
 use Rattle.page.specs.View.{view}
@@ -17,6 +19,8 @@ link-requires-2 g c κs =
       wide = (omega (arith, r .width, c .pre .wide .0), omega (arith, r .width, c .pre .wide .1));
       on = omega (arith, r .blocks, c .pre .on .1);
       within = omega (arith, r .counts, c .pre .within .1);
+      free = ap (λ (z : State). getD (z .1) (c .args .right) 0) (c .link .ensures .state)
+          ∙ getD-set-other (vec-items (c .args .store .now .counts .of)) (c .args .left) (c .args .right) 1 0 (λ e. c .pre .apart (sym e)) ∙ c .pre .free .1;
       left = omega (arith, r .left, c .pre .left);
       low = c .pre .low .1;
     }

@@ -103,7 +103,7 @@ link-requires g c κs =
     let L = link-able m cs gs root s t h p a q made M v (c .pre .row .1) in
     let j : c .put-in-made .last .grant .next ≡ 2 * suc (t .0) = omega (arith, c .put-in-made .ensures .next, c .single-above .ensures .level, p .height) in
     let b : c .take-block .result ≡ getD gs (2 * suc (t .0)) 0 = c .take-block .ensures .block ∙ ap₂ (λ (x : List ℕ) (i : ℕ). getD x i 0) (c .put-in-made .ensures .blocks) j in
-    record { sound = c .put-in-made .ensures .sound; wide = L .0; on = omega (arith, L .1, b); within = omega (arith, L .2, b); left = L .3; low = L .4 }
+    record { sound = c .put-in-made .ensures .sound; wide = L .0; on = omega (arith, L .1, b); within = omega (arith, L .2, b); free = ap (λ (x : ℕ). getD (q .1) x 0) b ∙ L .6; left = L .3; low = L .4 }
 
 pub ghost-result-2 : need.ghost-result-2
 ghost-result-2 g c =
