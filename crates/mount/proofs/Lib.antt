@@ -1,0 +1,9 @@
+pub mod Pages
+pub mod Blocks
+pub mod Tally
+pub mod Walking
+pub mod Counting
+pub mod Visits
+pub mod Slots
+pub mod Exact
+pub mod Formatting
