@@ -29,7 +29,7 @@ IsNone (Some x) = ⊥
 some-none : {A : Type 0} (x : A) → Some x ≡ None → ⊥
 some-none x e = subst IsNone (sym e) tt
 
-either-none : {A : Type 0} (x y : Option A) → orOther x y ≡ None → (x ≡ None) × (y ≡ None)
+pub either-none : {A : Type 0} (x y : Option A) → orOther x y ≡ None → (x ≡ None) × (y ≡ None)
 either-none (Some a) y e = absurd (some-none a e)
 either-none None y e = (refl, e)
 
@@ -43,7 +43,7 @@ module _ (n k l lo hi b : ℕ) (f : List (ℕ × ℕ) → Option Fault) where
   block-part None e = absurd (some-none _ e)
   block-part (Some y) e = let p = made-none (wellMade n k l lo hi y) (f (y .entries)) e in (y, refl, p .0, p .1)
 
-  content-part : (x : Content) → inContent n k l lo hi b f x ≡ None → (y : Block) × (blockIn x ≡ Some y) × (wellMade n k l lo hi y ≡ true) × (f (y .entries) ≡ None)
+  pub content-part : (x : Content) → inContent n k l lo hi b f x ≡ None → (y : Block) × (blockIn x ≡ Some y) × (wellMade n k l lo hi y ≡ true) × (f (y .entries) ≡ None)
   content-part (words ws) e = block-part (decode ws) e
   content-part (damaged m) e = absurd (some-none _ e)
 
@@ -52,15 +52,15 @@ module _ (n k l lo hi b : ℕ) (f : List (ℕ × ℕ) → Option Fault) where
   content-none (damaged m) y e w h = absurd (some-none y (sym e))
 
 -- the parts of the test
-record Made (n k l lo hi : ℕ) (b : Block) : Type 0 where
-  level : b .level ≡ l
-  starts′ : starts l lo (b .entries) ≡ true
-  asc : ascending hi (b .entries) ≡ true
-  enough : k ≤ length (b .entries)
-  few : length (b .entries) ≤ 15
-  pays : every (payable n l) (b .entries) ≡ true
+pub record Made (n k l lo hi : ℕ) (b : Block) : Type 0 where
+  pub level : b .level ≡ l
+  pub starts′ : starts l lo (b .entries) ≡ true
+  pub asc : ascending hi (b .entries) ≡ true
+  pub enough : k ≤ length (b .entries)
+  pub few : length (b .entries) ≤ 15
+  pub pays : every (payable n l) (b .entries) ≡ true
 
-made-parts : (n k l lo hi : ℕ) (b : Block) → wellMade n k l lo hi b ≡ true → Made n k l lo hi b
+pub made-parts : (n k l lo hi : ℕ) (b : Block) → wellMade n k l lo hi b ≡ true → Made n k l lo hi b
 made-parts n k l lo hi b h =
     let es : List (ℕ × ℕ) = b .entries in
     let p = and-parts (eqb (b .level) l && (starts l lo es && ascending hi es)) ((leb k (length es) && leb (length es) 15) && every (payable n l) es) h in
