@@ -1,23 +1,23 @@
--- The same where the level is not known to be above 0.
+-- One level of put where the level is not known to be above 0, and how many writes it makes.
 use mathlib.Core.Path.{_≡_, refl, ap, ap₂, sym, subst, _∙_}
-use mathlib.Core.List.{List, [], _∷_, _++_, map}
+use mathlib.Core.List.{List, [], _∷_, _++_}
 use mathlib.Core.Bool.{Bool, true, false, cond}
-use Prim.Native.Nat.{ℕ, zero, suc, _+_, _-_, _*_, _<_, _≤_}
+use Prim.Native.Nat.{ℕ, zero, suc, _+_, _*_, _<_, _≤_}
 use native.Mathlib.Omega.{arith}
 use native.Mathlib.Nat.{not-suc-le-zero}
 use lib.ListN.{length, getD, take, drop}
 use lib.Dec.{eqb, ltb}
 use Rattle.std.specs.declared.option.Option.the-variants.{Some}
-use Rattle.device.specs.Meaning.{Meaning, blocksOf}
-use Rattle.tree.specs.Node.{ins, first, ahead, Seg, Every, mapE}
-use Rattle.tree.specs.Tree.{Pay, Tree, Gap}
+use Rattle.device.specs.Meaning.{Meaning}
+use Rattle.tree.specs.Node.{ins, first, ahead, mapE}
+use Rattle.tree.specs.Tree.{Pay, Tree}
 use Rattle.page.specs.Block.{Block, blockAt, kidsOf}
 use Rattle.counts.specs.Counts.{opened}
-use Rattle.edit.specs.Plan.{shallow, page, nodeOf, kids, Stored, chosen, parted, placed, links, down, kidN, putN, kidMoves, moves}
-use Rattle.counts.specs.Moves.{Move, opening, linking, State, stateOf, step, run, writes, Laid}
+use Rattle.edit.specs.Plan.{shallow, page, nodeOf, chosen, parted, placed, links, down, putN, kidMoves, moves}
+use Rattle.counts.specs.Moves.{Move, opening, linking, State, stateOf, step, writes, Laid}
 use Rattle.edit.specs.Able.{Ready, Able, Made, Open}
 use Rattle.counts.specs.Moves.{Wide, Owned}
-use Rattle.edit.proofs.States.{Same, same-by, writes-append}
+use Rattle.edit.proofs.States.{same-by, writes-append}
 use Rattle.edit.proofs.Parting.{By}
 use Rattle.edit.proofs.Downs.{owned, key-is, number-is, child-node, part-ready, opened-free, up, shallow-length}
 use Rattle.edit.proofs.Keeps.{keeps}
@@ -64,9 +64,6 @@ module _ (m : Meaning) (cs gs : List ℕ) (n : Block) (s : ℕ) where
 
   pub room : (l : ℕ) (es : List (ℕ × Pay ℕ ℕ l)) → Ready m cs gs n s l es → length (n .entries) ≤ 14
   room l es p = omega (arith, p .room, ap (λ (x : Block). length (x .entries)) (p .is), shallow-length l es)
-
-  pub level-is : (l : ℕ) (es : List (ℕ × Pay ℕ ℕ l)) → Ready m cs gs n s l es → n .level ≡ l
-  level-is l es p = ap (λ (x : Block). x .level) (p .is)
 
   pub first-key : (n .level ≡ 0 → ⊥) → (l : ℕ) (es : List (ℕ × Pay ℕ ℕ l)) → Ready m cs gs n s l es → (0 < length (n .entries)) × (getD (n .entries) 0 (0, 0) .0 ≤ s)
   first-key above zero es p = absurd (above (ap (λ (x : Block). x .level) (p .is)))

@@ -3,7 +3,7 @@ use mathlib.Core.Path.{_≡_, refl, ap, ap₂, sym, _∙_}
 use mathlib.Core.List.{List, [], _∷_, _++_, map}
 use mathlib.Core.Bool.{Bool, true, false, cond}
 use mathlib.Core.Logic.{⊎-elim}
-use Prim.Native.Nat.{ℕ, zero, suc, _+_, _-_, _*_, _<_, _≤_}
+use Prim.Native.Nat.{ℕ, zero, suc, _+_, _*_, _<_}
 use native.Mathlib.Omega.{arith}
 use lib.Dec.{ltb}
 use lib.ListN.{length, getD, take, drop, length-take, length-drop}
@@ -18,7 +18,6 @@ use Rattle.tree.specs.Numbered.{onward, beside, numbers, numbered}
 use Rattle.tree.specs.Apart.{along, collect, itsPlace, places}
 use Rattle.tree.proofs.Over.{map-take, map-drop, map-length, map-first, map-ahead}
 use Rattle.counts.specs.Counts.{one, occ}
-use Rattle.counts.specs.Moves.{Move}
 use Rattle.counts.proofs.Opens.{occ-append}
 use Rattle.edit.specs.Plan.{shallow, chosen, parted, placed, links, down, kidN, putN, kidMoves, moves, putRootN}
 use Rattle.edit.proofs.Traces.{linked, linked-append}

@@ -1,10 +1,9 @@
 -- A tree of one empty leaf.
-use mathlib.Core.Path.{_≡_, refl, ap, ap₂, sym, subst, _∙_}
+use mathlib.Core.Path.{_≡_, ap, ap₂, sym, subst, _∙_}
 use mathlib.Core.List.{List, [], _∷_}
-use Prim.Native.Nat.{ℕ, suc, _+_, _<_, _≤_}
+use Prim.Native.Nat.{ℕ, _+_, _<_}
 use native.Mathlib.Omega.{arith}
 use lib.ListN.{length, getD}
-use Rattle.std.specs.declared.option.Option.the-variants.{Some}
 use Rattle.device.specs.Meaning.{Meaning, Cell, blocksOf, currentAt, written}
 use Rattle.device.proofs.Choices.{write-at}
 use Rattle.page.specs.Block.{Block, blockAt, blockIn, encode, Layout}
@@ -12,14 +11,13 @@ use Rattle.page.proofs.Exact.{back}
 use Rattle.counts.specs.Counts.{one, occ, Counted, freeBlocks}
 use Rattle.counts.specs.Moves.{Move, linking, State, stateOf, step, run}
 use Rattle.counts.specs.declared.grant.Grant.{Grant}
-use Rattle.counts.proofs.Opens.{recount}
 use Rattle.model.specs.TreeBlocks as model
 use Rattle.model.specs.TreeBlocks.{Change.begin, changedOn, newBlocks, bareTree, rootOf}
 use Rattle.edit.specs.Plan.{page}
 use Rattle.edit.specs.Edited.{Counting, Granted, Edited}
 use Rattle.edit.proofs.States.{run-same}
 use Rattle.edit.proofs.Keeps.{link-counted}
-use Rattle.edit.proofs.Traces.{ops, run-replay, ops-targets, ops-free}
+use Rattle.edit.proofs.Traces.{ops, run-replay, ops-free}
 use Rattle.edit.proofs.Editing.{lowest, spares}
 
 module _ (m : Meaning) (cs : List ℕ) (grant : Grant) (C : Counting m cs) (G : Granted 1 m cs grant) where

@@ -1,17 +1,17 @@
 -- One level of the way down, and back up.
 use mathlib.Core.Path.{_≡_, refl, ap, ap₂, sym, subst, _∙_}
-use mathlib.Core.List.{List, [], _∷_, _++_, map}
+use mathlib.Core.List.{List, [], _∷_, _++_}
 use mathlib.Core.Bool.{Bool, true, false, cond}
 use mathlib.Core.Logic.{⊎-elim}
-use Prim.Native.Nat.{ℕ, zero, suc, _+_, _-_, _*_, _<_, _≤_}
+use Prim.Native.Nat.{ℕ, zero, suc, _+_, _*_, _<_, _≤_}
 use native.Mathlib.Omega.{arith}
 use native.Mathlib.Nat.{not-suc-le-zero}
 use lib.ListN.{length, getD, take, drop, length-take, length-drop, take-append-drop}
 use lib.Dec.{eqb, ltb}
 use Rattle.std.proofs.shelf.Tests.{eq-eqb, ne-eqb, lt-ltb, le-ltb, cases-eq, cases-lt}
 use Rattle.std.specs.declared.option.Option.the-variants.{Some}
-use Rattle.device.specs.Meaning.{Meaning, blocksOf}
-use Rattle.tree.specs.Node.{first, at, ahead, Seg, Every, mapE}
+use Rattle.device.specs.Meaning.{Meaning}
+use Rattle.tree.specs.Node.{first, at, Seg, Every, mapE}
 use Rattle.tree.specs.Tree.{Pay, Tree, Gap, Cell, Span, Enough}
 use Rattle.tree.proofs.Over.{cond-map, map-append, map-take, map-drop, map-length, map-first}
 use Rattle.tree.proofs.Segs.{seg-le, seg-weak}
@@ -22,12 +22,12 @@ use Rattle.tree.proofs.Removes.{cell-le}
 use Rattle.tree.proofs.Steps.{map-get, every-get}
 use Rattle.page.specs.Block.{Block, blockAt, kidsOf}
 use Rattle.counts.specs.Counts.{one, occ, Counted, opened}
-use Rattle.counts.proofs.Opens.{recount, occ-append, open-counted, open-free, length-opened}
+use Rattle.counts.proofs.Opens.{recount, open-counted, open-free, length-opened}
 use Rattle.edit.specs.Plan.{shallow, page, nodeOf, kids, Stored, chosen, unchosen, parted, placed, links, down, kidN, putN, kidMoves, moves}
 use Rattle.counts.specs.Moves.{Move, opening, State, stateOf, step, run, Laid}
 use Rattle.edit.specs.Able.{Loose, Ready, Made}
 use Rattle.counts.specs.Moves.{Owned}
-use Rattle.edit.proofs.States.{Same, same-by, run-append, laid-append}
+use Rattle.edit.proofs.States.{same-by, run-append, laid-append}
 use Rattle.edit.proofs.Parting.{By}
 
 module _ {X Y : Type 0} (f : X → Y) (s : ℕ) where

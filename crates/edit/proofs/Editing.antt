@@ -8,15 +8,15 @@ use lib.ListN.{length, getD, take, drop}
 use Rattle.std.proofs.shelf.Lists.{getD-take}
 use Rattle.std.proofs.shelf.Tests.{lt-ltb, le-ltb, cases-lt}
 use Rattle.device.specs.Meaning.{Meaning, blocksOf, currentAt}
+use Rattle.device.proofs.Choices.{blocks-replay}
 use Rattle.tree.proofs.Laid.{same-rule}
-use Rattle.page.specs.Block.{blockAt}
 use Rattle.page.specs.Slot.{Root}
-use Rattle.counts.specs.Counts.{one, Counted, spare, freeBlocks}
-use Rattle.counts.specs.Grants.{inGrant}
+use Rattle.counts.specs.Counts.{spare, freeBlocks}
 use Rattle.counts.specs.declared.grant.Grant.{Grant}
-use Rattle.model.specs.TreeBlocks.{topLevel, treeAt}
+use Rattle.model.specs.TreeBlocks.{Tree, Change, Change.begin, Change.puts, bareTree, changedOn, topLevel, treeAt, rootOf, Stored, Each, Fit, Good}
+use Rattle.model.proofs.TreeLaws.{tree-stored, grow-fit, begin-fit}
 use Rattle.edit.specs.Kept.{Free}
-use Rattle.edit.specs.Edited.{Counting, Editable, Granted}
+use Rattle.edit.specs.Edited.{Counting, Editable, Granted, Edited}
 use Rattle.edit.proofs.Trees.{Spare, Rooted, from-model}
 
 -- the free blocks are within bounds, of count 0, and ascend
@@ -93,3 +93,35 @@ rooted m cs grant root s E G sp =
       wide = E .counting .wide;
       speed = sp;
     }
+
+-- the new tree is sound
+each-by : (N : ℕ → Type 0) (xs : List ℕ) → ((i : ℕ) → i < length xs → N (getD xs i 0)) → Each N xs
+each-by N [] h = tt
+each-by N (x ∷ xs) h = (h 0 (omega arith), each-by N xs (λ i lt. h (suc i) (omega arith)))
+
+frees-inside : (m : Meaning) (cs : List ℕ) → Counting m cs → Each (λ x. (2 ≤ x) × (x < blocksOf m)) (freeBlocks cs)
+frees-inside m cs C =
+    each-by (λ x. (2 ≤ x) × (x < blocksOf m)) (freeBlocks cs) (λ i lt. let q = spare-at (length cs - 2) 2 cs i lt in (q .0, omega (arith, q .0, q .1, C .sized)))
+
+good-after : (d : Change ℕ) (t : Tree) (m : Meaning) (cs : List ℕ) (m′ : Meaning) (cs′ : List ℕ) (r : Root) → r ≡ rootOf (changedOn ℕ d (freeBlocks cs) t) → Edited d t m cs m′ cs′ → Fit (blocksOf m) (changedOn ℕ d (freeBlocks cs) t)
+    → Good (blocksOf m′) (currentAt m′) r
+good-after d t m cs m′ cs′ r e E F =
+    let u : Tree = changedOn ℕ d (freeBlocks cs) t in
+    let back : treeAt (currentAt m′) (rootOf u) ≡ u = tree-stored (currentAt m′) u (E .stored) in
+    let n : blocksOf m′ ≡ blocksOf m = ap blocksOf (E .trace) ∙ blocks-replay (E .os) m in
+    subst (λ (x : Root). Good (blocksOf m′) (currentAt m′) x) (sym e) (record {
+      height = omega arith;
+      stored = subst (Stored (currentAt m′)) (sym back) (E .stored);
+      fit = subst (Fit (blocksOf m′)) (sym back) (subst (λ (k : ℕ). Fit k u) (sym n) F);
+    })
+
+pub good-put : (m : Meaning) (cs : List ℕ) (grant : Grant) (root : Root) (s a : ℕ) → Editable m cs root → Granted (2 * root .0 + 1) m cs grant → s < 10000 → a ≤ 18000 → (m′ : Meaning) (cs′ : List ℕ) (r : Root)
+    → r ≡ rootOf (changedOn ℕ (puts s a) (freeBlocks cs) (treeAt (currentAt m) root)) → Edited (puts s a) (treeAt (currentAt m) root) m cs m′ cs′ → Good (blocksOf m′) (currentAt m′) r
+good-put m cs grant root s a E G sp k m′ cs′ r e D =
+    let t : Tree = treeAt (currentAt m) root in
+    let hi = rooted m cs grant root s E G sp .height in
+    good-after (puts s a) t m cs m′ cs′ r e D (grow-fit (blocksOf m) (puts s a) (freeBlocks cs) t (sp, k) (frees-inside m cs (E .counting)) (omega (arith, hi, G .enough)) (E .good .fit))
+
+pub good-create : (m : Meaning) (cs : List ℕ) (grant : Grant) → Counting m cs → Granted 1 m cs grant → (m′ : Meaning) (cs′ : List ℕ) (r : Root)
+    → r ≡ rootOf (changedOn ℕ begin (freeBlocks cs) bareTree) → Edited begin bareTree m cs m′ cs′ → Good (blocksOf m′) (currentAt m′) r
+good-create m cs grant C G m′ cs′ r e D = good-after begin bareTree m cs m′ cs′ r e D (begin-fit (blocksOf m) (freeBlocks cs) bareTree (frees-inside m cs C) (G .enough))

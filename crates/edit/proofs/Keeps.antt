@@ -1,31 +1,31 @@
 -- Put keeps the counts' equation, and what it makes is stored.
-use mathlib.Core.Path.{_≡_, refl, ap, ap₂, sym, subst, _∙_}
-use mathlib.Core.List.{List, [], _∷_, _++_, map}
+use mathlib.Core.Path.{_≡_, refl, ap, sym, subst, _∙_}
+use mathlib.Core.List.{List, [], _∷_, _++_}
 use mathlib.Core.Bool.{Bool, true, false, cond}
 use mathlib.Core.Logic.{⊎-elim}
-use Prim.Native.Nat.{ℕ, zero, suc, _+_, _-_, _*_, _<_, _≤_}
+use Prim.Native.Nat.{ℕ, zero, suc, _+_, _*_, _<_, _≤_}
 use native.Mathlib.Omega.{arith}
-use lib.ListN.{length, getD, set, take, drop, length-set, take-append-drop}
+use lib.ListN.{length, getD, take, drop, length-set, take-append-drop}
 use lib.Dec.{eqb, ltb}
 use Rattle.std.proofs.shelf.Lists.{getD-set-same, getD-set-other}
 use Rattle.std.proofs.shelf.Tests.{eq-eqb, ne-eqb, lt-ltb, le-ltb, cases-eq, cases-lt}
 use Rattle.std.specs.declared.option.Option.{Option}
 use Rattle.std.specs.declared.option.Option.the-variants.{Some}
 use Rattle.std.specs.Options.{isSome}
-use Rattle.device.specs.Meaning.{Meaning, Content, Cell, words, blocksOf, noCell, currentAt, written, writtenCell}
+use Rattle.device.specs.Meaning.{Meaning, Cell, blocksOf, noCell, writtenCell}
 use Rattle.tree.specs.Node.{ins, first, at, ahead, Every, mapE}
 use Rattle.tree.specs.Tree.{Pay, Tree}
 use Rattle.tree.proofs.Kept.{every-append, every-take, every-drop}
-use Rattle.page.specs.Block.{Block, blockAt, blockIn, decode, encode, kidsOf, levelOf, Layout}
+use Rattle.page.specs.Block.{Block, blockAt, blockIn, encode, kidsOf, levelOf, Layout}
 use Rattle.page.proofs.Exact.{back}
-use Rattle.counts.specs.Counts.{one, occ, Counted, opened}
+use Rattle.counts.specs.Counts.{one, occ, Counted}
 use Rattle.counts.proofs.Parents.{one-same, one-other}
 use Rattle.counts.proofs.Steps.{link-in}
 use Rattle.counts.proofs.Opens.{recount, open-counted, open-free, length-opened, kids-alive}
-use Rattle.edit.specs.Plan.{shallow, page, nodeOf, kids, Stored, chosen, unchosen, parted, placed, links, down, kidN, putN, kidMoves, moves}
-use Rattle.counts.specs.Moves.{Move, opening, linking, State, stateOf, step, run, Laid}
-use Rattle.edit.specs.Kept.{cellAt, Free, Outside, Kept, Stands}
-use Rattle.edit.proofs.States.{Same, run-same, run-append}
+use Rattle.edit.specs.Plan.{shallow, nodeOf, kids, Stored, chosen, unchosen, parted, placed, links, down, kidN, putN, kidMoves, moves}
+use Rattle.counts.specs.Moves.{Move, opening, linking, State, step, run, Laid}
+use Rattle.edit.specs.Kept.{cellAt, Free, Kept, Stands}
+use Rattle.edit.proofs.States.{run-same, run-append}
 use Rattle.edit.proofs.Downs.{kids-append}
 
 blockAt-cells : (m m′ : Meaning) (b : ℕ) → cellAt m′ b ≡ cellAt m b → blockAt m′ b ≡ blockAt m b
@@ -204,10 +204,6 @@ free-open gs N q h x c f = record {
 }
 
 module _ (gs : List ℕ) (s a N : ℕ) where
-  Claim : (l : ℕ) → Type 0
-  Claim l = (es : List (ℕ × Pay ℕ ℕ l)) (q : State) (h : ℕ → ℕ) → Every (Stored (blockAt (q .0)) l) es → Counted (blockAt (q .0)) (q .1) (λ b. occ b (kids l es) + h b) → Free (q .0) (q .1) gs N → 2 * l ≤ N
-      → Laid (q .0 .width) (moves gs s a l es) → Stands gs l h q (run (moves gs s a l es) q) (putN gs s a l es)
-
   kid-keeps : (l : ℕ) → ((es : List (ℕ × Pay ℕ ℕ l)) (q : State) (h : ℕ → ℕ) → Every (Stored (blockAt (q .0)) l) es → Counted (blockAt (q .0)) (q .1) (λ b. occ b (kids l es) + h b) → Free (q .0) (q .1) gs N → 2 * l ≤ N
       → Laid (q .0 .width) (moves gs s a l es) → Stands gs l h q (run (moves gs s a l es) q) (putN gs s a l es))
       → (k : ℕ) (t : Tree ℕ ℕ l) (q : State) (h : ℕ → ℕ) → Stored (blockAt (q .0)) (suc l) t → Counted (blockAt (q .0)) (q .1) (λ b. one (t .0) b + h b) → Free (q .0) (q .1) gs N → 2 * suc l ≤ N

@@ -1,10 +1,10 @@
 -- A page in memory has words.
-use mathlib.Core.Path.{_≡_, ap}
+use mathlib.Core.Path.{ap}
 use Prim.Native.Nat.{ℕ, _<_, _≤_}
 use native.Mathlib.Omega.{arith}
-use lib.ListN.{length, getD}
+use lib.ListN.{getD}
 use Rattle.page.specs.Block.{Layout}
-use Rattle.page.specs.View.{view, entries}
+use Rattle.page.specs.View.{view}
 use Rattle.page.specs.declared.page.Page.{Page}
 use Rattle.page.specs.declared.page.Entry.{Entry}
 use Rattle.page.proofs.Pages.{entries-length, entries-at}

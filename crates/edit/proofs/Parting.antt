@@ -1,16 +1,14 @@
 -- What stands for a child, case by case.
-use mathlib.Core.Path.{_≡_, refl, ap, ap₂, sym, subst, _∙_}
-use mathlib.Core.List.{List, [], _∷_, _++_}
-use mathlib.Core.Bool.{Bool, true, false, cond}
-use Prim.Native.Nat.{ℕ, zero, suc, _+_, _-_, _*_, _<_, _≤_}
+use mathlib.Core.Path.{_≡_, ap, ap₂, subst, _∙_}
+use mathlib.Core.List.{List, [], _∷_}
+use Prim.Native.Nat.{ℕ, _<_, _≤_}
 use native.Mathlib.Omega.{arith}
-use lib.ListN.{length, getD, take, drop}
-use lib.Dec.{eqb, ltb}
+use lib.ListN.{length, take, drop}
 use Rattle.std.proofs.shelf.Tests.{eq-eqb, ne-eqb, lt-ltb, le-ltb}
 use Rattle.tree.specs.Node.{first, mapE}
-use Rattle.page.specs.Block.{Block, Layout}
+use Rattle.page.specs.Block.{Layout}
 use Rattle.edit.specs.Plan.{page, parted, placed, links}
-use Rattle.counts.specs.Moves.{Move, linking, State, step, run, Laid}
+use Rattle.counts.specs.Moves.{linking, State, step, run, Laid}
 
 pub record By (l x y : ℕ) (q q′ : State) (ks : List (ℕ × ℕ)) (ps : List (ℕ × List (ℕ × ℕ))) : Type 0 where
   pub kids : ks ≡ mapE (λ c. c .0) (placed x y ps)

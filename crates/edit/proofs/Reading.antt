@@ -1,48 +1,16 @@
--- What is read of a block that holds a node.
-use mathlib.Core.Path.{_≡_, refl, ap, sym, subst, _∙_}
+-- The part of a page that a speed belongs to, and its first speed.
+use mathlib.Core.Path.{_≡_, refl, ap, sym, _∙_}
 use mathlib.Core.List.{List, [], _∷_}
-use mathlib.Core.Bool.{true, false, cond}
-use mathlib.Core.Logic.{⊎-elim}
 use Prim.Native.Nat.{ℕ, _<_, _≤_}
 use native.Mathlib.Omega.{arith}
 use lib.ListN.{length, getD, take, drop}
-use lib.Dec.{eqb, ltb}
-use Rattle.std.proofs.shelf.Lists.{getD-past}
-use Rattle.std.proofs.shelf.Tests.{cases-lt, false≢true, eq-eqb, ne-eqb, lt-ltb, le-ltb}
-use Rattle.std.specs.Options.{isSome}
-use Rattle.std.specs.declared.result.Result.{Result}
-use Rattle.std.specs.declared.result.Result.the-variants.{Ok, Err}
-use Rattle.device.specs.declared.Layer.{Layer}
-use Rattle.device.specs.declared.DeviceFault.{DeviceFault}
-use Rattle.device.specs.Meaning.{Meaning, Content, Cell, words, damaged, currentAt, blocksOf, noCell, reading, held}
-use Rattle.device.proofs.Calls.{reading-at}
+use Rattle.std.proofs.shelf.Tests.{eq-eqb, ne-eqb, lt-ltb, le-ltb}
 use Rattle.tree.specs.Node.{first}
-use Rattle.page.specs.Block.{Block, decode, blockIn, blockAt}
 use Rattle.page.specs.View.{entries}
 use Rattle.page.specs.declared.page.Page.{Page}
 use Rattle.page.specs.declared.page.Entry.{Entry}
 use Rattle.page.proofs.Pages.{entries-length, entries-at}
 use Rattle.edit.specs.Plan.{chosen}
-
-held-words : (k : Content) → isSome (blockIn k) ≡ true → (ws : List ℕ) × (k ≡ words ws)
-held-words (words ws) h = (ws, refl)
-held-words (damaged m) h = absurd (false≢true h)
-
-pub record Readable (m : Meaning) (b : ℕ) : Type 0 where
-  pub ws : List ℕ
-  pub on : b < blocksOf m
-  pub content : currentAt m b ≡ words ws
-  pub node : blockAt m b ≡ decode ws
-
-pub readable : (m : Meaning) (b : ℕ) → isSome (blockAt m b) ≡ true → Readable m b
-unfolding blockAt
-readable m b h =
-    let on : b < blocksOf m = ⊎-elim (λ l. l) (λ past. absurd (false≢true (ap (λ (k : Cell). isSome (blockIn (k .current))) (sym (getD-past (m .cells) b noCell past)) ∙ h))) (cases-lt b (blocksOf m)) in
-    let w = held-words (currentAt m b) h in
-    record { ws = w .0; on = on; content = w .1; node = ap blockIn (w .1) }
-
-pub reads : (c : Layer) (m : Meaning) (b n : ℕ) → n ≡ m .width → (r : Readable m b) → reading c m b n ≡ Ok (r .ws)
-reads c m b n e r = reading-at c m b n e (r .on) ∙ ap held (r .content)
 
 -- the part that a speed belongs to
 pub chosen-all : (s : ℕ) (es : List (ℕ × ℕ)) → length es < 15 → es ≡ chosen s es

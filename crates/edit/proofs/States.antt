@@ -1,15 +1,15 @@
 -- What moves leave as it was.
-use mathlib.Core.Path.{_≡_, refl, ap, sym, subst, _∙_}
+use mathlib.Core.Path.{_≡_, refl, sym, subst, _∙_}
 use mathlib.Core.List.{List, [], _∷_, _++_}
 use mathlib.Core.Bool.{Bool, true, false, cond}
-use Prim.Native.Nat.{ℕ, zero, suc, _+_, _-_, _*_, _<_, _≤_}
+use Prim.Native.Nat.{ℕ, _+_, _-_, _≤_}
 use native.Mathlib.Omega.{arith}
-use lib.ListN.{length, getD, set, length-set}
+use lib.ListN.{length, length-set}
 use lib.Dec.{eqb}
-use Rattle.device.specs.Meaning.{Meaning, Cell, blocksOf, written, spent}
-use Rattle.page.specs.Block.{blockAt, kidsOf, encode}
+use Rattle.device.specs.Meaning.{blocksOf, spent}
+use Rattle.page.specs.Block.{blockAt, kidsOf}
 use Rattle.counts.proofs.Opens.{length-opened}
-use Rattle.counts.specs.Moves.{Move, opening, linking, State, stateOf, step, run, writes, Laid}
+use Rattle.counts.specs.Moves.{Move, opening, linking, State, step, run, writes, Laid}
 
 pub record Same (q q′ : State) (n : ℕ) : Type 0 where
   pub width : q′ .0 .width ≡ q .0 .width

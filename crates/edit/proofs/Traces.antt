@@ -7,7 +7,7 @@ use native.Mathlib.Omega.{arith}
 use lib.ListN.{length, getD, take, drop}
 use lib.Dec.{eqb, ltb}
 use Rattle.device.specs.Meaning.{Meaning, blocksOf}
-use Rattle.device.specs.Cuts.{Op, Op.write, Op.flush, apply, replay}
+use Rattle.device.specs.Cuts.{Op, Op.write, replay}
 use Rattle.tree.specs.Node.{first, ahead, mapE}
 use Rattle.tree.specs.Tree.{Pay}
 use Rattle.page.specs.Block.{encode}
@@ -84,7 +84,3 @@ module _ (gs : List ℕ) (N : ℕ → Type 0) where
       (moves-each s a l (chosen s (t .1)) (λ j lt. h j (omega arith)))
       (links-each (getD gs (2 * l) 0) (getD gs (2 * l + 1) 0) l s k (shallow l) (t .1) (putN gs s a l (chosen s (t .1))) (h (2 * l) (omega arith)) (h (2 * l + 1) (omega arith))))
       es
-
-pub replay-append : (us vs : List Op) (m : Meaning) → replay (us ++ vs) m ≡ replay vs (replay us m)
-replay-append [] vs m = refl
-replay-append (u ∷ us) vs m = replay-append us vs (apply u m)

@@ -1,23 +1,21 @@
 -- A whole tree with a row put.
 use mathlib.Core.Path.{_≡_, refl, ap, ap₂, sym, subst, _∙_}
 use mathlib.Core.List.{List, [], _∷_, _++_}
-use mathlib.Core.Bool.{Bool, true, false, cond}
-use Prim.Native.Nat.{ℕ, zero, suc, _+_, _-_, _*_, _<_, _≤_}
+use Prim.Native.Nat.{ℕ, zero, suc, _+_, _*_, _<_, _≤_}
 use native.Mathlib.Omega.{arith}
-use lib.ListN.{length, getD, take, drop}
+use lib.ListN.{length, getD, drop}
 use lib.Dec.{eqb, ltb}
 use Rattle.std.proofs.shelf.Tests.{cond-both}
-use Rattle.std.specs.declared.option.Option.{Option}
 use Rattle.std.specs.declared.option.Option.the-variants.{Some}
 use Rattle.device.specs.Meaning.{Meaning, blocksOf, currentAt}
 use Rattle.tree.specs.Node.{first, Every, mapE}
-use Rattle.tree.specs.Tree.{Pay, Tree, Wf, All, only}
+use Rattle.tree.specs.Tree.{Tree, Wf, only}
 use Rattle.tree.proofs.Puts.{five-high}
 use Rattle.tree.proofs.Stores.{all-both}
-use Rattle.page.specs.Block.{Block, blockAt, blockIn, encode, Layout}
+use Rattle.page.specs.Block.{Block, blockAt, blockIn, Layout}
 use Rattle.page.specs.Slot.{Root}
 use Rattle.counts.specs.Counts.{one, occ, Counted, freeBlocks}
-use Rattle.counts.specs.Moves.{Move, linking, State, stateOf, step, run, Laid, Wide}
+use Rattle.counts.specs.Moves.{Move, linking, State, stateOf, step, run, Wide}
 use Rattle.counts.proofs.Opens.{recount}
 use Rattle.model.specs.TreeBlocks as model
 use Rattle.model.specs.TreeBlocks.{Change.puts, changedOn, newBlocks, blockOf, rootOf, Each}

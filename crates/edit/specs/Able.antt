@@ -1,13 +1,13 @@
 -- What put needs of a page in memory and of its grant, and what it makes.
 use mathlib.Core.Path.{_≡_}
-use mathlib.Core.List.{List, [], _∷_, _++_}
+use mathlib.Core.List.{List}
 use Prim.Native.Nat.{ℕ, zero, suc, _≤_, _<_, _+_, _*_}
 use lib.ListN.{length, getD}
 use Rattle.device.specs.Meaning.{Meaning, blocksOf}
 use Rattle.tree.specs.Node.{Seg, Every}
-use Rattle.tree.specs.Tree.{Pay, Tree, Gap, Span, Enough}
+use Rattle.tree.specs.Tree.{Pay, Gap, Span, Enough}
 use Rattle.page.specs.Block.{Block, blockAt}
-use Rattle.counts.specs.Counts.{one, occ, Counted}
+use Rattle.counts.specs.Counts.{occ, Counted}
 use Rattle.counts.specs.Moves.{Wide}
 use Rattle.counts.specs.Moves.{run, Laid}
 use Rattle.edit.specs.Plan.{nodeOf, kids, Stored, moves, putN}

@@ -1,8 +1,8 @@
 // What stands for a child in its parent once a row is put below it.
 ghost use mathlib.Core.Path.{_≡_};
 ghost use mathlib.Core.List.{_++_};
-ghost use Prim.Native.Nat.{ℕ, suc, _<_, _≤_};
-ghost use lib.ListN.{length, getD, take, drop};
+ghost use Prim.Native.Nat.{suc, _<_};
+ghost use lib.ListN.{take, drop};
 ghost use Rattle.page.specs.View.{entries};
 ghost use Rattle.edit.specs.Plan.{chosen};
 ghost use Rattle.edit.specs.Kids.{listed};

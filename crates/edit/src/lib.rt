@@ -1,25 +1,22 @@
+// Changes of trees on counted blocks: a new empty tree, and a row put.
 ghost use mathlib.Core.Path.{_≡_};
-ghost use mathlib.Core.Bool.{true};
 ghost use mathlib.Core.List.{List, [], _∷_};
-ghost use Prim.Native.Nat.{ℕ, suc, _+_, _-_, _*_, _<_, _≤_};
-ghost use lib.ListN.{length, getD, set, take};
-ghost use Rattle.std.specs.Of.Vec.{vec-len, vec-items};
-ghost use Rattle.std.specs.Options.{isSome};
-ghost use Rattle.std.specs.Slices.{found};
+ghost use Prim.Native.Nat.{ℕ, _+_, _-_, _*_, _<_, _≤_};
+ghost use lib.ListN.{length, getD, take};
+ghost use Rattle.std.specs.Of.Vec.{vec-items};
 ghost use Rattle.std.specs.declared.option.Option.the-variants.{Some};
-ghost use Rattle.device.specs.Meaning.{Meaning, blocksOf, currentAt};
+ghost use Rattle.device.specs.Meaning.{blocksOf, currentAt};
 ghost use Rattle.tree.specs.Node.{mapE};
 ghost use Rattle.tree.specs.Tree.{Pay};
-ghost use Rattle.page.specs.Block.{blockAt, kidsOf, Layout};
 ghost use Rattle.page.specs.View.{view, entries};
 ghost use Rattle.edit.specs.Plan.{parted, placed, links};
-ghost use Rattle.counts.specs.Moves.{opening, linking, stateOf, step, run, Laid};
+ghost use Rattle.counts.specs.Moves.{linking, stateOf, run, Laid};
 ghost use Rattle.edit.specs.Remove.{Remove-keeps, Removes};
 ghost use Rattle.counts.specs.Counts.{freeBlocks};
-ghost use Rattle.model.specs.TreeBlocks.{Change.begin, Change.puts, bareTree, changedOn, treeAt, rootOf};
+ghost use Rattle.model.specs.TreeBlocks.{Change.begin, Change.puts, bareTree, changedOn, treeAt, rootOf, Good};
 ghost use Rattle.edit.specs.Edited.{Counting, Editable, Granted, Edited};
 ghost use Rattle.edit.specs.Able.{Open, Able, Ready, Made};
-ghost use Rattle.counts.specs.Moves.{Wide, Owned};
+ghost use Rattle.counts.specs.Moves.{Wide};
 ghost use Rattle.edit.specs.Kids.{listed};
 
 mod kids;
@@ -34,6 +31,7 @@ use page::page::Entry;
 use page::page::Page;
 use page::roots::Root;
 
+// What is proved of remove on numbered blocks.
 pub fn remove_stands() -> u8
     ensures keeps { λ _. ⌜ Remove-keeps ⌝ }
     ensures removes { λ _. ⌜ Removes ⌝ }
@@ -41,6 +39,7 @@ pub fn remove_stands() -> u8
     0
 }
 
+// Writes two pages to two free blocks.
 fn link_two<D: Device>(store: &mut Store<D>, left: u32, right: u32, lower: &Page, upper: &Page)
     requires sound { ⌜ D·Device .sound (now store .device) ⌝ }
     requires wide { ⌜ Wide (D·Device .meaning (now store .device)) ⌝ }
@@ -148,6 +147,7 @@ pub fn put_tree<D: Device>(store: &mut Store<D>, root: Root, row: Entry, grant: 
     ensures sound { λ _. ⌜ D·Device .sound (now (store .exit) .device) ⌝ }
     ensures root { λ r. ⌜ (r .height, r .block) ≡ rootOf (changedOn ℕ (puts (row .speed) (row .value)) (freeBlocks (vec-items (now (store .entry) .counts .of))) (treeAt (currentAt (D·Device .meaning (now (store .entry) .device))) (root .height, root .block))) ⌝ }
     ensures edited { λ _. ⌜ Edited (puts (row .speed) (row .value)) (treeAt (currentAt (D·Device .meaning (now (store .entry) .device))) (root .height, root .block)) (D·Device .meaning (now (store .entry) .device)) (vec-items (now (store .entry) .counts .of)) (D·Device .meaning (now (store .exit) .device)) (vec-items (now (store .exit) .counts .of)) ⌝ }
+    ensures good { λ r. ⌜ Good (blocksOf (D·Device .meaning (now (store .exit) .device))) (currentAt (D·Device .meaning (now (store .exit) .device))) (r .height, r .block) ⌝ }
 {
     let mut grant = grant;
     let above = Page::single(
@@ -183,6 +183,7 @@ pub fn create_tree<D: Device>(store: &mut Store<D>, grant: Grant) -> Root
     ensures sound { λ _. ⌜ D·Device .sound (now (store .exit) .device) ⌝ }
     ensures root { λ r. ⌜ (r .height, r .block) ≡ rootOf (changedOn ℕ begin (freeBlocks (vec-items (now (store .entry) .counts .of))) bareTree) ⌝ }
     ensures edited { λ _. ⌜ Edited begin bareTree (D·Device .meaning (now (store .entry) .device)) (vec-items (now (store .entry) .counts .of)) (D·Device .meaning (now (store .exit) .device)) (vec-items (now (store .exit) .counts .of)) ⌝ }
+    ensures good { λ r. ⌜ Good (blocksOf (D·Device .meaning (now (store .exit) .device))) (currentAt (D·Device .meaning (now (store .exit) .device))) (r .height, r .block) ⌝ }
 {
     let mut grant = grant;
     let block = grant.take();

@@ -1,20 +1,18 @@
-use mathlib.Core.Path.{_≡_, refl, sym, ap, ap₂, subst, _∙_}
-use mathlib.Core.List.{List, [], _∷_, _++_}
-use Prim.Native.Nat.{ℕ, suc, _+_, _*_, _<_, _≤_}
+use mathlib.Core.Path.{refl, sym, ap₂, subst, _∙_}
+use mathlib.Core.List.{List}
+use Prim.Native.Nat.{ℕ, _+_}
 use native.Mathlib.Omega.{arith}
-use lib.ListN.{length, getD, take, drop}
+use lib.ListN.{getD}
 use Rattle.std.specs.Of.Vec.{vec-items}
 use Rattle.device.specs.Meaning.{Meaning}
-use Rattle.tree.specs.Tree.{Pay}
-use Rattle.page.specs.Block.{Block}
 use Rattle.page.specs.View.{view, entries}
 use Rattle.page.proofs.Pages.{entries-length, entries-at}
-use Rattle.edit.specs.Plan.{page, parted, placed, links}
+use Rattle.edit.specs.Plan.{page, parted}
 use Rattle.counts.specs.Moves.{State, stateOf}
-use Rattle.edit.specs.Able.{Ready, Made, Open}
+use Rattle.edit.specs.Able.{Open}
 use Rattle.edit.specs.Kids.{listed}
 use Rattle.edit.proofs.Parting.{By}
-use Rattle.edit.proofs.Anyhow.{leaf-made, room, level-is, first-key, owned-any, part-any, linkable, up-any}
+use Rattle.edit.proofs.Anyhow.{leaf-made, room, first-key, owned-any, part-any, linkable, up-any}
 use Rattle.edit.proofs.+put_in.Needs as need
 
 pub with-row-requires : need.with-row-requires

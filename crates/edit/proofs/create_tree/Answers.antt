@@ -1,4 +1,4 @@
-use mathlib.Core.Path.{_≡_, sym, ap, ap₂, _∙_}
+use mathlib.Core.Path.{_≡_, ap, _∙_}
 use mathlib.Core.List.{List}
 use Prim.Native.Nat.{ℕ}
 use native.Mathlib.Omega.{arith}
@@ -6,7 +6,8 @@ use lib.ListN.{getD}
 use Rattle.std.specs.Of.Vec.{vec-items}
 use Rattle.device.specs.Meaning.{Meaning}
 use Rattle.page.specs.View.{view}
-use Rattle.counts.specs.Moves.{stateOf}
+use Rattle.counts.specs.Moves.{State, stateOf}
+use Rattle.edit.proofs.Editing.{good-create}
 use Rattle.edit.proofs.Creating.{leaf-able, created-root, created}
 use Rattle.edit.proofs.create_tree.Needs as need
 
@@ -31,9 +32,12 @@ returns g c =
     let m : Meaning = g .D·Device .meaning (c .args .store .now .device) in
     let cs : List ℕ = vec-items (c .args .store .now .counts .of) in
     let b : c .take-block .result ≡ getD (c .args .grant .blocks) 0 0 = c .take-block .ensures .block ∙ ap (λ (i : ℕ). getD (c .args .grant .blocks) i 0) (c .pre .granted .start) in
+    let z : State = stateOf (g .D·Device .meaning (c .link .last .self .device)) (vec-items (c .link .last .self .counts .of)) in
+    let at = created-root m cs (c .args .grant) (c .pre .counting) (c .pre .granted) (c .take-block .result) b in
+    let D = created m cs (c .args .grant) (c .pre .counting) (c .pre .granted) (c .take-block .result) b (view (c .empty-leaf .result)) (c .empty-leaf .ensures .level) (c .empty-leaf .ensures .these) z (c .link .ensures .state) in
     record {
       sound = c .link .ensures .sound;
-      root = created-root m cs (c .args .grant) (c .pre .counting) (c .pre .granted) (c .take-block .result) b;
-      edited = created m cs (c .args .grant) (c .pre .counting) (c .pre .granted) (c .take-block .result) b (view (c .empty-leaf .result)) (c .empty-leaf .ensures .level) (c .empty-leaf .ensures .these)
-          (stateOf (g .D·Device .meaning (c .link .last .self .device)) (vec-items (c .link .last .self .counts .of))) (c .link .ensures .state);
+      root = at;
+      edited = D;
+      good = good-create m cs (c .args .grant) (c .pre .counting) (c .pre .granted) (z .0) (z .1) _ at D;
     }

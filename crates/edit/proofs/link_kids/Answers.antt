@@ -1,8 +1,7 @@
-use mathlib.Core.Path.{_≡_, refl, sym, ap, ap₂, subst, _∙_}
+use mathlib.Core.Path.{_≡_, sym, ap, ap₂, subst, _∙_}
 use mathlib.Core.List.{List, [], _∷_}
-use Prim.Native.Nat.{ℕ, _+_, _<_}
+use Prim.Native.Nat.{ℕ, _+_}
 use native.Mathlib.Omega.{arith}
-use borrow.Author.Needs.{needs}
 use lib.ListN.{length, getD, take, drop, length-drop}
 use Rattle.std.specs.Of.Vec.{vec-items}
 use Rattle.page.specs.Block.{Block, Layout}
@@ -12,7 +11,7 @@ use Rattle.edit.specs.Plan.{page}
 use Rattle.counts.specs.Moves.{linking, State, stateOf, step, run}
 use Rattle.edit.proofs.Reading.{first-speed}
 use Rattle.edit.proofs.Laying.{laid-out}
-use Rattle.edit.proofs.Parting.{By, by-one, by-low, by-high}
+use Rattle.edit.proofs.Parting.{by-one, by-low, by-high}
 use Rattle.edit.proofs.link_kids.Needs as need
 
 pub link-requires : need.link-requires

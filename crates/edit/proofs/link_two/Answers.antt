@@ -1,14 +1,12 @@
-use mathlib.Core.Path.{_≡_, refl, sym, ap, ap₂, subst, _∙_}
-use mathlib.Core.List.{List, [], _∷_}
-use Prim.Native.Nat.{ℕ, _<_}
+use mathlib.Core.Path.{sym, ap, _∙_}
+use mathlib.Core.List.{[], _∷_}
 use native.Mathlib.Omega.{arith}
 use lib.ListN.{getD}
 use Rattle.std.proofs.shelf.Lists.{getD-set-other}
-use borrow.Author.Needs.{needs}
 use Rattle.std.specs.Of.Vec.{vec-items}
 use Rattle.page.specs.View.{view}
 use Rattle.counts.specs.Moves.{linking, State, stateOf, step}
-use Rattle.edit.proofs.States.{Same, same-by}
+use Rattle.edit.proofs.States.{same-by}
 use Rattle.edit.proofs.link_two.Needs as need
 
 pub link-requires-2 : need.link-requires-2

@@ -1,8 +1,8 @@
-use mathlib.Core.Path.{_≡_, refl, sym, ap, ap₂, subst, _∙_}
+use mathlib.Core.Path.{_≡_, sym, ap, ap₂, _∙_}
 use mathlib.Core.List.{List, [], _∷_}
-use Prim.Native.Nat.{ℕ, suc, _+_, _*_, _<_, _≤_}
+use Prim.Native.Nat.{ℕ, suc, _*_}
 use native.Mathlib.Omega.{arith}
-use lib.ListN.{length, getD}
+use lib.ListN.{getD}
 use Rattle.std.specs.Of.Vec.{vec-items}
 use Rattle.device.specs.Meaning.{Meaning, currentAt}
 use Rattle.page.specs.Block.{Block}
@@ -13,7 +13,7 @@ use Rattle.counts.specs.Moves.{State, stateOf}
 use Rattle.model.specs.TreeBlocks.{Tree, treeAt}
 use Rattle.edit.proofs.Laying.{laid-out}
 use Rattle.edit.proofs.Trees.{low, top-ready, many, one-small, one-root, one-edited, link-able, more-root, more-edited}
-use Rattle.edit.proofs.Editing.{rooted}
+use Rattle.edit.proofs.Editing.{rooted, good-put}
 use Rattle.edit.proofs.put_tree.Needs as need
 
 pub single-above-requires : need.single-above-requires
@@ -79,10 +79,13 @@ returns-then-made-eq1 g c =
     let M = c .put-in-made .ensures .made (suc (t .0)) ((0, t .1) ∷ []) (top-ready m cs gs root s t h p (view (c .single-above .result)) (c .single-above .ensures .level) (c .single-above .ensures .these)) in
     let n = entries-length (c .put-in-made .result) ∙ c .if-made-eq1 .taken in
     let e = ap (λ (x : ℕ × ℕ). x .1) (entries-at (c .put-in-made .result) 0 (c .index-made-0 .result) (omega (arith, c .if-made-eq1 .taken))) in
+    let at = one-root m cs gs root s t h p a q made M n _ e in
+    let D = one-edited m cs gs root s t h p a q made M n _ e in
     record {
       sound = c .put-in-made .ensures .sound;
-      root = one-root m cs gs root s t h p a q made M n _ e;
-      edited = one-edited m cs gs root s t h p a q made M n _ e;
+      root = at;
+      edited = D;
+      good = good-put m cs (c .args .grant) root s a (c .pre .editable) (c .pre .granted) (c .pre .row .0) (c .pre .row .1) (q .0) (q .1) _ at D;
     }
 
 pub link-requires : need.link-requires
@@ -143,9 +146,12 @@ returns g c =
     let L = link-able m cs gs root s t h p a q made M v (c .pre .row .1) in
     let j : c .put-in-made .last .grant .next ≡ 2 * suc (t .0) = omega (arith, c .put-in-made .ensures .next, c .single-above .ensures .level, p .height) in
     let b : c .take-block .result ≡ getD gs (2 * suc (t .0)) 0 = c .take-block .ensures .block ∙ ap₂ (λ (x : List ℕ) (i : ℕ). getD x i 0) (c .put-in-made .ensures .blocks) j in
+    let z : State = stateOf (g .D·Device .meaning (c .link .last .self .device)) (vec-items (c .link .last .self .counts .of)) in
+    let at = more-root m cs gs root s t h p a q made M v (c .take-block .result) b in
+    let D = more-edited m cs gs root s t h p a q made M v (c .take-block .result) b z (c .link .ensures .state) (laid-out (c .put-in-made .result) (q .0 .width) (L .0 .0) (L .4)) in
     record {
       sound = c .link .ensures .sound;
-      root = more-root m cs gs root s t h p a q made M v (c .take-block .result) b;
-      edited = more-edited m cs gs root s t h p a q made M v (c .take-block .result) b
-          (stateOf (g .D·Device .meaning (c .link .last .self .device)) (vec-items (c .link .last .self .counts .of))) (c .link .ensures .state) (laid-out (c .put-in-made .result) (q .0 .width) (L .0 .0) (L .4));
+      root = at;
+      edited = D;
+      good = good-put m cs (c .args .grant) root s a (c .pre .editable) (c .pre .granted) (c .pre .row .0) (c .pre .row .1) (z .0) (z .1) _ at D;
     }
