@@ -1,4 +1,6 @@
 // A check layer: a device over one that is a word wider, whose last word is a check of the others.
+#![tactic(auto)]
+
 ghost use Rattle.std.specs.Prelude.{◌≡◌, ℕ, ◌+◌, ◌-◌, ◌*◌, ◌<◌, ◌≤◌, [], ◌∷◌, ◌++◌, length, take, IfOk, MatchResult, ◌==◌, slice_index};
 ghost use Rattle.device.specs.declared.Layer.{Layer};
 ghost use Rattle.device.specs.Meaning.{Cut, Meaning, flushed, blocks_of, answered, filled, held, current_at, after_write, spending, passed};

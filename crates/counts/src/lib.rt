@@ -1,4 +1,6 @@
 // References to tree blocks, counted. docs/counts.md explains the equation and the moves that keep it.
+#![tactic(auto)]
+
 ghost use Rattle.std.specs.Prelude.{◌≡◌, ℕ, ◌+◌, ◌-◌, ◌*◌, ◌<◌, ◌≤◌, length, Some, vec_len, slice_index, slice_set};
 ghost use Rattle.counts.specs.Counts.{AliveIsReached, add_all, opened, Roomy};
 ghost use Rattle.counts.specs.Keeping.{retained, RetainKeeps, OpenKeeps, LinkKeeps, CountsFit};

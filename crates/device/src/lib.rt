@@ -1,4 +1,6 @@
 // Block devices, known by their meaning alone. The rules are stated in docs/devices.md.
+#![tactic(auto)]
+
 ghost use Rattle.std.specs.Prelude.{◌≡◌, ℕ, length};
 ghost use Rattle.device.specs.declared.Layer.{Layer};
 ghost use Rattle.device.specs.Numbers.{layer_code, fault_number, fault_mark, shape_number};

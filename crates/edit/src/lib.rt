@@ -1,4 +1,6 @@
 // Changes of trees on counted blocks: a new empty tree, and a row put.
+#![tactic(auto)]
+
 ghost use Rattle.std.specs.Prelude.{◌≡◌, ℕ, ◌+◌, ◌-◌, ◌*◌, ◌<◌, ◌≤◌, List, [], ◌∷◌, length, Some, ◌≢◌, slice_index};
 ghost use Rattle.device.specs.Meaning.{blocks_of, current_at};
 ghost use Rattle.tree.specs.Node.{map_e};

@@ -1,5 +1,7 @@
 // A device in one lent slice of words: a head, and then records that are only ever added. The head says how many records
 // are flushed, and these outlast a cut of the power.
+#![tactic(auto)]
+
 ghost use Rattle.std.specs.Prelude.{◌≡◌, ◌+◌, ◌-◌, ◌*◌, ◌^◌, ◌<◌, ◌≤◌, ◌∷◌, length, take, drop, replicate, IfSome, MatchBool, MatchResult, slice_index, slice_set};
 ghost use Rattle.std.specs.List.{AllByRecursion as All};
 ghost use Rattle.device.specs.declared.Layer.{Layer};

@@ -1,5 +1,7 @@
 // A device in memory, over three lent slices: the current words, the persisted words and a mark for each block.
 // Only the persisted words outlast a cut of the power.
+#![tactic(auto)]
+
 ghost use Rattle.std.specs.Prelude.{◌≡◌, ◌+◌, ◌-◌, ◌*◌, ◌^◌, ◌<◌, ◌≤◌, length, take, drop, replicate, IfOk, MatchResult};
 ghost use Rattle.std.specs.List.{AllByRecursion as All};
 ghost use Rattle.device.specs.declared.Layer.{Layer};

@@ -1,4 +1,6 @@
 // A mirror: two devices of one shape as one. Each write and each flush goes to both, the first side before the second.
+#![tactic(auto)]
+
 ghost use Rattle.std.specs.Prelude.{◌≡◌, ℕ, ◌+◌, ◌-◌, ◌*◌, ◌<◌, ◌≤◌, length, IfOk, MatchResult};
 ghost use Rattle.device.specs.declared.Layer.{Layer};
 ghost use Rattle.device.specs.Meaning.{Meaning, flushed, written, blocks_of, answered, filled, held, current_at};

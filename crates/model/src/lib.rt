@@ -1,4 +1,6 @@
 // What the calls of a volume mean, and the law of histories. docs/model.md explains the definitions.
+#![tactic(auto)]
+
 mod carried;
 mod refusal;
 

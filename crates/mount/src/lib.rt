@@ -1,4 +1,6 @@
 // Mounting: which images are a volume, and the counts of references that a mounted one has.
+#![tactic(auto)]
+
 ghost use Rattle.std.specs.Prelude.{◌≡◌, ℕ, ◌<◌, ◌≤◌, true, ◌&&◌, replicate, IfSome, vec_len, MatchResult};
 ghost use Rattle.device.specs.Meaning.{Meaning, blocks_of};
 ghost use Rattle.page.specs.View.{slot_of};

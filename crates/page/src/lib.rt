@@ -1,4 +1,6 @@
 // Tree blocks and slots: their words, and edits of a tree block in memory.
+#![tactic(auto)]
+
 ghost use Rattle.std.specs.Prelude.{◌<◌};
 ghost use Rattle.page.specs.Block.{DecodesExactly};
 ghost use Rattle.page.specs.Slot.{FormsExact, SlotsExact};

@@ -1,4 +1,6 @@
 // Keeps the pitch table of a turbine type on a pile of devices, through a cut of the power, and says what happened.
+#![tactic(auto)]
+
 mod pile;
 mod report;
 mod store;

@@ -1,4 +1,6 @@
 // A quota: a device that offers the first blocks of the one below it.
+#![tactic(auto)]
+
 ghost use Rattle.std.specs.Prelude.{◌≡◌, ℕ, ◌+◌, ◌-◌, ◌*◌, ◌<◌, ◌≤◌, length, IfOk, MatchResult};
 ghost use Rattle.device.specs.declared.Layer.{Layer};
 ghost use Rattle.device.specs.Meaning.{Cut, Meaning, flushed};

@@ -1,4 +1,6 @@
 // Rows of wind speed and blade angle, and the angle at a speed between them. docs/tables.md states the rules.
+#![tactic(auto)]
+
 mod angle;
 mod making;
 mod row;

@@ -1,4 +1,6 @@
 // The calls of a mounted volume. docs/volume.md states them.
+#![tactic(auto)]
+
 ghost use Rattle.std.specs.Prelude.{◌≡◌, ℕ, ◌+◌, ◌*◌, ◌≤◌, length, Some, None, MatchResult};
 ghost use Rattle.edit.specs.Edited.{Granted};
 ghost use Rattle.page.specs.View.{root_of};
