@@ -15,9 +15,9 @@ loop-i-preserved c =
     let ps : Table = map root_of c.args.slot.now.places in
     let n : length c.args.slot.now.places ≡ 24 = c.args.slot.now.fits.1 in
     let w : length c.loop-i.out ≡ length c.args.out.now = c.loop-i.invariant.0 ∙ length-set c.args.out.now 0 (word 6 c.args.slot.now.generation) in (
-      length-set c.loop-i.out (c.loop-i.i + 1) c.clone-word.result ∙ c.loop-i.invariant.0,
-      slot_step c.loop-i.out (word 6 c.args.slot.now.generation) c.loop-i.i c.clone-word.result ps (omega (arith, w, c.requires.wide, c.loop-i-test.true)) (omega (arith, length-map c.args.slot.now.places root_of, n, c.loop-i-test.true))
-          (c.clone-word.ensures ∙ ap clone_word (sym (get_or-map root_of c.args.slot.now.places c.loop-i.i c.index-slot-i.result None (omega (arith, n, c.loop-i-test.true))))) c.loop-i.invariant.1,
+      length-set c.loop-i.out (c.loop-i.i + 1) c.clone_word.result ∙ c.loop-i.invariant.0,
+      slot_step c.loop-i.out (word 6 c.args.slot.now.generation) c.loop-i.i c.clone_word.result ps (omega (arith, w, c.requires.wide, c.loop-i-test.true)) (omega (arith, length-map c.args.slot.now.places root_of, n, c.loop-i-test.true))
+          (c.clone_word.ensures ∙ ap clone_word (sym (get_or-map root_of c.args.slot.now.places c.loop-i.i c.index-slot-i.result None (omega (arith, n, c.loop-i-test.true))))) c.loop-i.invariant.1,
     )
 
 pub loop-j-init : goal.loop-j-init

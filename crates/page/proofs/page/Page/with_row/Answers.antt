@@ -13,16 +13,16 @@ pub returns-then-speed-e : goal.returns-then-speed-e
 returns-then-speed-e c =
     let e = ap (λ (q : ℕ × ℕ). q.0) (entries_at c.args.self.now c.loop-i.i c.index-self-i.result c.loop-i-test.true) in
     record {
-      level = c.with-one.ensures.level;
-      these = c.with-one.ensures.these ∙ sym (ins_hit c.args.e.speed c.args.e.value (entries c.args.self.now) c.loop-i.i (omega (arith, entries_length c.args.self.now, c.loop-i-test.true)) c.loop-i.invariant (e ∙ c.if-speed-e.true));
+      level = c.with_one.ensures.level;
+      these = c.with_one.ensures.these ∙ sym (ins_hit c.args.e.speed c.args.e.value (entries c.args.self.now) c.loop-i.i (omega (arith, entries_length c.args.self.now, c.loop-i-test.true)) c.loop-i.invariant (e ∙ c.if-speed-e.true));
     }
 
 pub returns-then-e-speed : goal.returns-then-e-speed
 returns-then-e-speed c =
     let e = ap (λ (q : ℕ × ℕ). q.0) (entries_at c.args.self.now c.loop-i.i c.index-self-i.result c.loop-i-test.true) in
     record {
-      level = c.with-more.ensures.level;
-      these = c.with-more.ensures.these ∙ sym (ins_miss c.args.e.speed c.args.e.value (entries c.args.self.now) c.loop-i.i (omega (arith, entries_length c.args.self.now, c.loop-i-test.true)) c.loop-i.invariant (λ h. omega (arith, e, c.if-e-speed.true)));
+      level = c.with_more.ensures.level;
+      these = c.with_more.ensures.these ∙ sym (ins_miss c.args.e.speed c.args.e.value (entries c.args.self.now) c.loop-i.i (omega (arith, entries_length c.args.self.now, c.loop-i-test.true)) c.loop-i.invariant (λ h. omega (arith, e, c.if-e-speed.true)));
     }
 
 pub returns : goal.returns
@@ -30,6 +30,6 @@ returns c =
     let q : c.loop-i.i ≡ c.args.self.now.len = omega arith in
     let n = entries_length c.args.self.now in
     record {
-      level = c.with-more-2.ensures.level;
-      these = c.with-more-2.ensures.these ∙ sym (ins_miss c.args.e.speed c.args.e.value (entries c.args.self.now) c.args.self.now.len (omega (arith, n)) (λ k h. c.loop-i.invariant k (omega arith)) (λ h. absurd (omega (arith, n, h))));
+      level = c.with_more-2.ensures.level;
+      these = c.with_more-2.ensures.these ∙ sym (ins_miss c.args.e.speed c.args.e.value (entries c.args.self.now) c.args.self.now.len (omega (arith, n)) (λ k h. c.loop-i.invariant k (omega arith)) (λ h. absurd (omega (arith, n, h))));
     }
