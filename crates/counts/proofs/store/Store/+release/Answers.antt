@@ -31,17 +31,17 @@ set-requires g t c =
 pub release-requires : goal.release-requires
 release-requires g t c κs within =
     let d = g.D.Device in
-    let p : Page = c.read-page-page.result in
+    let p : Page = c.read_page-page.result in
     let ks : List ℕ = kids_of (Some (view p)) in
-    let up : p.level ≡ c.args.level = ap level_of (sym c.read-page-page.ensures.page) ∙ c.requires.held.height in
+    let up : p.level ≡ c.args.level = ap level_of (sym c.read_page-page.ensures.page) ∙ c.requires.held.height in
     let len = page-kids-length p (omega (arith, up, c.if-level-gt0.true)) in
     let lt : c.loop-i.i < length ks = omega (arith, c.loop-i-test.true, len) in
-    let same : d.meaning c.loop-i.self.device ≡ d.meaning c.args.self.now.device = c.loop-i.invariant.1 ∙ c.read-page-page.ensures.kept in
+    let same : d.meaning c.loop-i.self.device ≡ d.meaning c.args.self.now.device = c.loop-i.invariant.1 ∙ c.read_page-page.ensures.kept in
     let n : get_or (vec_items c.args.self.now.counts.of) c.args.block 0 ≡ 1 = omega (arith, c.get-count.ensures, c.if-count-eq1.true) in
-    let e : vec_items c.read-page-page.new.self.counts.of ≡ set (vec_items c.args.self.now.counts.of) c.args.block 0 =
-    ap (λ k. vec_items k.of) c.read-page-page.ensures.counts ∙ c.set.ensures ∙ ap (set (vec_items c.args.self.now.counts.of) c.args.block) (omega (arith, c.if-count-eq1.true)) in
+    let e : vec_items c.read_page-page.new.self.counts.of ≡ set (vec_items c.args.self.now.counts.of) c.args.block 0 =
+    ap (λ k. vec_items k.of) c.read_page-page.ensures.counts ∙ c.set.ensures ∙ ap (set (vec_items c.args.self.now.counts.of) c.args.block) (omega (arith, c.if-count-eq1.true)) in
     let kid : get_or ks c.loop-i.i 0 ≡ (get_or p.items c.loop-i.i c.index-page-i.result).value = page_kids_at p c.loop-i.i c.index-page-i.result (omega (arith, up, c.if-level-gt0.true)) c.loop-i-test.true in
-    let gone = subst (λ m. Dropped (take c.loop-i.i ks) m (vec_items c.read-page-page.new.self.counts.of) (vec_items c.loop-i.self.counts.of)) c.read-page-page.ensures.kept c.loop-i.invariant.2 in (
+    let gone = subst (λ m. Dropped (take c.loop-i.i ks) m (vec_items c.read_page-page.new.self.counts.of) (vec_items c.loop-i.self.counts.of)) c.read_page-page.ensures.kept c.loop-i.invariant.2 in (
       omega (arith, c.decreases, c.if-level-gt0.true),
       (
         within,
@@ -51,7 +51,7 @@ release-requires g t c κs within =
             subst Wide (sym same) c.requires.wide,
             subst (λ m. Held m (vec_items c.loop-i.self.counts.of) (get_or p.items c.loop-i.i c.index-page-i.result).value (c.args.level - 1)) (sym same)
                 (subst (λ y. Held (d.meaning c.args.self.now.device) (vec_items c.loop-i.self.counts.of) y (c.args.level - 1)) kid
-                (next_child c.args.block c.args.level ks c.loop-i.i _ _ _ _ c.requires.held n e (ap kids_of (sym c.read-page-page.ensures.page)) lt gone)),
+                (next_child c.args.block c.args.level ks c.loop-i.i _ _ _ _ c.requires.held n e (ap kids_of (sym c.read_page-page.ensures.page)) lt gone)),
           ),
         ),
       ),
@@ -60,18 +60,18 @@ release-requires g t c κs within =
 pub loop-i-preserved : goal.loop-i-preserved
 loop-i-preserved g t c =
     let d = g.D.Device in
-    let p : Page = c.read-page-page.result in
+    let p : Page = c.read_page-page.result in
     let ks : List ℕ = kids_of (Some (view p)) in
-    let up : p.level ≡ c.args.level = ap level_of (sym c.read-page-page.ensures.page) ∙ c.requires.held.height in
+    let up : p.level ≡ c.args.level = ap level_of (sym c.read_page-page.ensures.page) ∙ c.requires.held.height in
     let len = page-kids-length p (omega (arith, up, c.if-level-gt0.true)) in
     let lt : c.loop-i.i < length ks = omega (arith, c.loop-i-test.true, len) in
     let kid : get_or ks c.loop-i.i 0 ≡ (get_or p.items c.loop-i.i c.index-page-i.result).value = page_kids_at p c.loop-i.i c.index-page-i.result (omega (arith, up, c.if-level-gt0.true)) c.loop-i-test.true in
-    let m : Meaning = d.meaning c.read-page-page.new.self.device in
+    let m : Meaning = d.meaning c.read_page-page.new.self.device in
     let one_more = subst (λ y. Dropped (y ∷ []) m (vec_items c.loop-i.self.counts.of) (vec_items c.release.new.self.counts.of)) (sym kid)
     (subst (λ n. Dropped ((get_or p.items c.loop-i.i c.index-page-i.result).value ∷ []) n (vec_items c.loop-i.self.counts.of) (vec_items c.release.new.self.counts.of)) c.loop-i.invariant.1 c.release.ensures.dropped) in (
       c.release.ensures.sound,
       c.release.ensures.kept ∙ c.loop-i.invariant.1,
-      subst (λ xs. Dropped xs m (vec_items c.read-page-page.new.self.counts.of) (vec_items c.release.new.self.counts.of))
+      subst (λ xs. Dropped xs m (vec_items c.read_page-page.new.self.counts.of) (vec_items c.release.new.self.counts.of))
           (sym (take_more ks c.loop-i.i 0 lt))
           (dropped_push (take c.loop-i.i ks) (get_or ks c.loop-i.i 0) m _ _ _ c.loop-i.invariant.2 one_more),
     )
@@ -79,20 +79,20 @@ loop-i-preserved g t c =
 pub returns-after-loop-i : goal.returns-after-loop-i
 returns-after-loop-i g t c =
     let d = g.D.Device in
-    let p : Page = c.read-page-page.result in
+    let p : Page = c.read_page-page.result in
     let ks : List ℕ = kids_of (Some (view p)) in
-    let up : p.level ≡ c.args.level = ap level_of (sym c.read-page-page.ensures.page) ∙ c.requires.held.height in
+    let up : p.level ≡ c.args.level = ap level_of (sym c.read_page-page.ensures.page) ∙ c.requires.held.height in
     let len = page-kids-length p (omega (arith, up, c.if-level-gt0.true)) in
     let all : take c.loop-i.i ks ≡ ks = take_all c.loop-i.i ks (omega (arith, len, c.loop-i-test.false)) in
     let n : get_or (vec_items c.args.self.now.counts.of) c.args.block 0 ≡ 1 = omega (arith, c.get-count.ensures, c.if-count-eq1.true) in
-    let e : vec_items c.read-page-page.new.self.counts.of ≡ set (vec_items c.args.self.now.counts.of) c.args.block 0 =
-    ap (λ k. vec_items k.of) c.read-page-page.ensures.counts ∙ c.set.ensures ∙ ap (set (vec_items c.args.self.now.counts.of) c.args.block) (omega (arith, c.if-count-eq1.true)) in
-    let gone = subst (λ m. Dropped (take c.loop-i.i ks) m (vec_items c.read-page-page.new.self.counts.of) (vec_items c.loop-i.self.counts.of)) c.read-page-page.ensures.kept c.loop-i.invariant.2 in
+    let e : vec_items c.read_page-page.new.self.counts.of ≡ set (vec_items c.args.self.now.counts.of) c.args.block 0 =
+    ap (λ k. vec_items k.of) c.read_page-page.ensures.counts ∙ c.set.ensures ∙ ap (set (vec_items c.args.self.now.counts.of) c.args.block) (omega (arith, c.if-count-eq1.true)) in
+    let gone = subst (λ m. Dropped (take c.loop-i.i ks) m (vec_items c.read_page-page.new.self.counts.of) (vec_items c.loop-i.self.counts.of)) c.read_page-page.ensures.kept c.loop-i.invariant.2 in
     record {
       sound = c.loop-i.invariant.0;
-      kept = c.loop-i.invariant.1 ∙ c.read-page-page.ensures.kept;
-      dropped = dropped-last c.args.block ks _ _ _ _ n e (ap kids_of (sym c.read-page-page.ensures.page))
-          (subst (λ xs. Dropped xs (d.meaning c.args.self.now.device) (vec_items c.read-page-page.new.self.counts.of) (vec_items c.loop-i.self.counts.of)) all gone);
+      kept = c.loop-i.invariant.1 ∙ c.read_page-page.ensures.kept;
+      dropped = dropped-last c.args.block ks _ _ _ _ n e (ap kids_of (sym c.read_page-page.ensures.page))
+          (subst (λ xs. Dropped xs (d.meaning c.args.self.now.device) (vec_items c.read_page-page.new.self.counts.of) (vec_items c.loop-i.self.counts.of)) all gone);
     }
 
 pub returns-else-count-eq1 : goal.returns-else-count-eq1
