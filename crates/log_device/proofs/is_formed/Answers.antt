@@ -9,8 +9,8 @@ test_both : (r : Bool) {A B : Type 0} → (A → B) → (B → A) → MatchBool 
 test_both true there back h = there h
 test_both false there back h = λ b. h (back b)
 
-pub are-records-requires : goal.are-records-requires
-are-records-requires c =
+pub are_records-requires : goal.are_records-requires
+are_records-requires c =
     let k = c.payload-count.result in
     let w = c.args.width in
     let len = length c.args.image.now in
@@ -20,13 +20,13 @@ are-records-requires c =
 pub returns-then-count-capacity : goal.returns-then-count-capacity
 returns-then-count-capacity c = record {
   formed = λ f. omega (arith, f.within, c.capacity.ensures, c.payload-count.ensures, c.if-count-capacity.true);
-  fits = All-from_get_or (λ x. x < 2 ^ 32) c.args.image.now 0 (λ i l. omega (arith, c.type-inv.image i));
+  fits = All-from_get_or (λ x. x < 2 ^ 32) c.args.image.now 0 (λ i l. omega (arith, c.type_inv.image i));
 }
 
 pub returns-then-kind-ne-HEAD : goal.returns-then-kind-ne-HEAD
 returns-then-kind-ne-HEAD c = record {
   formed = λ f. c.if-kind-ne-HEAD.true (c.kind.ensures ∙ f.head);
-  fits = All-from_get_or (λ x. x < 2 ^ 32) c.args.image.now 0 (λ i l. omega (arith, c.type-inv.image i));
+  fits = All-from_get_or (λ x. x < 2 ^ 32) c.args.image.now 0 (λ i l. omega (arith, c.type_inv.image i));
 }
 
 pub returns : goal.returns
@@ -38,9 +38,9 @@ returns c =
     let e : k ≡ flushed_in img = c.payload-count.ensures in
     let h : k ≤ capacity (length img) w = omega (arith, c.capacity.ensures, c.if-count-capacity.false) in
     record {
-      formed = test_both c.are-records.result {A = AreRecords img n w k} {B = Formed img n w}
+      formed = test_both c.are_records.result {A = AreRecords img n w k} {B = Formed img n w}
           (λ a. record { head = sym c.kind.ensures ∙ c.if-kind-ne-HEAD.false; within = omega (arith, e, h); kinds = subst (AreRecords img n w) e a })
           (λ f. subst (AreRecords img n w) (sym e) f.kinds)
-          c.are-records.ensures;
-      fits = All-from_get_or (λ x. x < 2 ^ 32) img 0 (λ i l. omega (arith, c.type-inv.image i));
+          c.are_records.ensures;
+      fits = All-from_get_or (λ x. x < 2 ^ 32) img 0 (λ i l. omega (arith, c.type_inv.image i));
     }

@@ -9,4 +9,4 @@ made (x ∷ xs) ws ys word e p =
     ap (λ t. word ∷ (ys ++ t)) (drop_all (length (word ∷ xs) - 1) xs (omega arith)) ∙ ap (λ t. word ∷ t) (append-nil ys ∙ p)
 
 pub returns : goal.returns
-returns c = made c.args.to.now c.args.words.now c.copy-from-slice.new.self c.args.word c.requires c.copy-from-slice.ensures.after
+returns c = made c.args.to.now c.args.words.now c.copy_from_slice.new.self c.args.word c.requires c.copy_from_slice.ensures.after

@@ -5,6 +5,6 @@ use Rattle.memory.proofs.copy_all.Goals as goal
 
 pub returns : goal.returns
 returns c = record {
-  same = c.copy-from-slice.ensures.after;
-  fits = subst (All (λ x. x < 2 ^ 32)) c.copy-from-slice.ensures.after (All-from_get_or (λ x. x < 2 ^ 32) c.copy-from-slice.new.self 0 (λ i h. omega (arith, c.type-inv.to i)));
+  same = c.copy_from_slice.ensures.after;
+  fits = subst (All (λ x. x < 2 ^ 32)) c.copy_from_slice.ensures.after (All-from_get_or (λ x. x < 2 ^ 32) c.copy_from_slice.new.self 0 (λ i h. omega (arith, c.type_inv.to i)));
 }

@@ -5,8 +5,8 @@ use Rattle.log_device.proofs.Facts.{below}
 use Rattle.log_device.proofs.Indexes.{index_more}
 use Rattle.log_device.proofs.Index.enter.Goals as goal
 
-pub offset-bounds-image-i : goal.offset-bounds-image-i
-offset-bounds-image-i c = omega (arith, below c.loop-i.i c.args.count c.args.width c.loop-i-test.true c.requires.1 c.requires.2)
+pub offset_bounds-image-i : goal.offset_bounds-image-i
+offset_bounds-image-i c = omega (arith, below c.loop-i.i c.args.count c.args.width c.loop-i-test.true c.requires.1 c.requires.2)
 
 pub bounds-image-i : goal.bounds-image-i
 bounds-image-i c = omega (arith, rows c.loop-i.i c.args.count (c.args.width + 1) c.loop-i-test.true, c.requires.0)

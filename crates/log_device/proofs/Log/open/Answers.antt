@@ -6,15 +6,15 @@ use Rattle.log_device.proofs.Indexes.{index_none}
 use Rattle.log_device.proofs.Cuts.{outlasts}
 use Rattle.log_device.proofs.Log.open.Goals as goal
 
-pub returns-then-not-is-formed : goal.returns-then-not-is-formed
-returns-then-not-is-formed c = record {
-  opened = (refl, (record { long = omega arith; some = omega arith; few = omega arith; broad = omega arith; narrow = omega arith }, c.if-not-is-formed.ensures.formed));
+pub returns-then-not-is_formed : goal.returns-then-not-is_formed
+returns-then-not-is_formed c = record {
+  opened = (refl, (record { long = omega arith; some = omega arith; few = omega arith; broad = omega arith; narrow = omega arith }, c.if-not-is_formed.ensures.formed));
   cut = outlasts c.args.image.now c.args.blocks c.args.width;
 }
 
-pub returns-in-default : goal.returns-in-default
-returns-in-default c = record {
-  opened = (refl, (record { long = omega arith; some = omega arith; few = omega arith; broad = omega arith; narrow = omega arith }, c.if-not-is-formed.ensures.formed));
+pub returns-in_default : goal.returns-in_default
+returns-in_default c = record {
+  opened = (refl, (record { long = omega arith; some = omega arith; few = omega arith; broad = omega arith; narrow = omega arith }, c.if-not-is_formed.ensures.formed));
   cut = outlasts c.args.image.now c.args.blocks c.args.width;
 }
 
@@ -25,7 +25,7 @@ enter-requires c =
     let w = c.args.width in
     let n = c.args.blocks in
     let e : k ≡ flushed_in img = c.payload-count.ensures in
-    let f : Formed img n w = c.if-not-is-formed.ensures.formed in
+    let f : Formed img n w = c.if-not-is_formed.ensures.formed in
     let h : k ≤ capacity (length img) w = omega (arith, e, f.within) in
     let empty : vec_items c.in-Some.index.of ≡ replicate n 0 = c.in-Some.ensures in
     let long : length (vec_items c.in-Some.index.of) ≡ n = ap length empty ∙ length-replicate {A = ℕ} n 0 in (
@@ -43,7 +43,7 @@ returns c =
     let w = c.args.width in
     let k = c.payload-count.result in
     let e : k ≡ flushed_in img = c.payload-count.ensures in
-    let f : Formed img n w = c.if-not-is-formed.ensures.formed in
+    let f : Formed img n w = c.if-not-is_formed.ensures.formed in
     let s : Shaped (length img) n w = record { long = omega arith; some = omega arith; few = omega arith; broad = omega arith; narrow = omega arith } in
     let empty : vec_items c.in-Some.index.of ≡ replicate n 0 = c.in-Some.ensures in
     let long : length (vec_items c.in-Some.index.of) ≡ n = ap length empty ∙ length-replicate {A = ℕ} n 0 in
@@ -51,7 +51,7 @@ returns c =
       opened = (
         s,
         f,
-        opened-sound img n w k e s f c.if-not-is-formed.ensures.fits,
+        opened-sound img n w k e s f c.if-not-is_formed.ensures.fits,
         subst (λ m. Indexed img m w k (vec_items c.enter.new.self.of)) long c.enter.ensures,
         ap (log_of img n w) e,
         refl,

@@ -6,8 +6,8 @@ use Rattle.log_device.specs.Log.{capacity, records, record_at}
 use Rattle.log_device.proofs.Facts.{fits_in}
 use Rattle.log_device.proofs.LogDevice.left.Goals as goal
 
-pub overflow-sub-left : goal.overflow-sub-left
-overflow-sub-left c =
+pub overflow_sub-left : goal.overflow_sub-left
+overflow_sub-left c =
     let w = c.args.self.now.width in
     let img = c.args.self.now.image.now in
     let k = c.args.self.now.count in

@@ -23,8 +23,8 @@ returns-then-self-capacity c =
     let none : m.left ≤ 0 = omega (arith, length-map-range_with_len (record_at s.width s.image.now) 0 s.count, c.capacity.ensures, c.if-self-capacity.true) in
     record { stays = c.requires; after = refl; answer = sym (writing_at Log m c.args.block (length c.args.words.now) c.if-words-self.false (simp length-map-range_with_len c.if-block-self.false) ∙ spending_worn m none) }
 
-pub slice-bounds-write-record-end : goal.slice-bounds-write-record-end
-slice-bounds-write-record-end c =
+pub slice_bounds-write_record-end : goal.slice_bounds-write_record-end
+slice_bounds-write_record-end c =
     let s = c.args.self.now in
     let h : s.count < capacity (length s.image.now) s.width = omega (arith, c.capacity.ensures, c.if-self-capacity.false) in
     room_for s.count s.width (length s.image.now) (omega (arith, c.requires.0.room)) h
@@ -42,12 +42,12 @@ returns c =
     let m = log_of img n w k in
     let h : b < n = c.if-block-self.false in
     let size : length ws ≡ w = c.if-words-self.false in
-    let fits : All (λ x. x < 2 ^ 32) ws = All-from_get_or (λ x. x < 2 ^ 32) ws 0 (λ i l. omega (arith, c.type-inv.words i)) in
+    let fits : All (λ x. x < 2 ^ 32) ws = All-from_get_or (λ x. x < 2 ^ 32) ws 0 (λ i l. omega (arith, c.type_inv.words i)) in
     let room : k < capacity (length img) w = omega (arith, c.capacity.ensures, c.if-self-capacity.false) in
     let from = place_of w k in
     let count : from + (w + 1) - from ≡ w + 1 = omega arith in
     let put = put_mid from (from + (w + 1) - from) img (word_of 9 b ∷ ws) in
-    let e : c.write-record.new.to ≡ word_of 9 b ∷ ws = c.write-record.ensures ∙ ap (λ x. x ∷ ws) c.word.ensures in
+    let e : c.write_record.new.to ≡ word_of 9 b ∷ ws = c.write_record.ensures ∙ ap (λ x. x ∷ ws) c.word.ensures in
     let some : 0 < m.left = omega (arith, length-map-range_with_len (record_at w img) 0 k, room) in
     let kept : Indexed put n w k index = index_same img put n w k index (λ i l. put-old img n w k c.requires.0 b ws h size fits room _ count i l) c.requires.1 in
     let entered : Indexed put n w (k + 1) (set index b (k + 1)) =

@@ -13,8 +13,8 @@ pub returns-then-block-self : goal.returns-then-block-self
 returns-then-block-self c =
     record { stays = c.requires; after = refl; answer = sym (writing_far _ (memory c.args.self.now.current.now c.args.self.now.persisted.now c.args.self.now.marks.now c.args.self.now.width) c.args.block (length c.args.words.now) c.if-words-self.false (simp length-map-range_with_len c.if-block-self.true)) }
 
-pub slice-bounds-copy-from-slice-end : goal.slice-bounds-copy-from-slice-end
-slice-bounds-copy-from-slice-end c = omega (arith, rows c.args.block (length c.args.self.now.marks.now) c.args.self.now.width c.if-block-self.false, c.requires.cur_len)
+pub slice_bounds-copy_from_slice-end : goal.slice_bounds-copy_from_slice-end
+slice_bounds-copy_from_slice-end c = omega (arith, rows c.args.block (length c.args.self.now.marks.now) c.args.self.now.width c.if-block-self.false, c.requires.cur_len)
 
 pub returns : goal.returns
 returns c =
@@ -23,10 +23,10 @@ returns c =
     let marks = c.args.self.now.marks.now in
     let w = c.args.self.now.width in
     let b = c.args.block in
-    let ws = c.copy-from-slice.new.self in
-    let e : ws ≡ c.args.words.now = c.copy-from-slice.ensures.after in
+    let ws = c.copy_from_slice.new.self in
+    let e : ws ≡ c.args.words.now = c.copy_from_slice.ensures.after in
     let size : length ws ≡ w = omega arith in
-    let fits : All (λ x. x < 2 ^ 32) ws = subst (All (λ x. x < 2 ^ 32)) (sym e) (All-from_get_or (λ x. x < 2 ^ 32) c.args.words.now 0 (λ i h. omega (arith, c.type-inv.words i))) in
+    let fits : All (λ x. x < 2 ^ 32) ws = subst (All (λ x. x < 2 ^ 32)) (sym e) (All-from_get_or (λ x. x < 2 ^ 32) c.args.words.now 0 (λ i h. omega (arith, c.type_inv.words i))) in
     let h : b < length marks = c.if-block-self.false in
     record {
       stays = write_sound cur per marks w c.requires b _ _ ws h size (omega arith) fits (omega arith);
