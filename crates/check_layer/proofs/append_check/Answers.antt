@@ -17,8 +17,8 @@ returns c =
     let n = length ws in
     let k : n - 0 ≡ n = omega arith in
     let one = one_left c.args.to.now n c.requires (drop (n - 0) c.args.to.now) (ap (λ j. drop j c.args.to.now) k) in
-    let front : c.copy-from-slice.new.self ≡ ws = c.copy-from-slice.ensures.after in
-    ap (λ xs. set (xs ++ drop (n - 0) c.args.to.now) n c.check-word.result) front
-    ∙ ap (λ ys. set (ws ++ ys) n c.check-word.result) one.1
-    ∙ set_at ws one.0 [] c.check-word.result n refl
-    ∙ ap (λ x. ws ++ (x ∷ [])) c.check-word.ensures
+    let front : c.copy_from_slice.new.self ≡ ws = c.copy_from_slice.ensures.after in
+    ap (λ xs. set (xs ++ drop (n - 0) c.args.to.now) n c.check_word.result) front
+    ∙ ap (λ ys. set (ws ++ ys) n c.check_word.result) one.1
+    ∙ set_at ws one.0 [] c.check_word.result n refl
+    ∙ ap (λ x. ws ++ (x ∷ [])) c.check_word.ensures

@@ -9,7 +9,7 @@ loop-word-preserved c =
     let xs = c.args.words.now in
     let i = c.loop-word.word-index in (
       omega arith,
-      ap (λ r. check_from (bit_xor r (get_or xs i 0)) (drop (i + 1) xs)) c.rotate-left.ensures
+      ap (λ r. check_from (bit_xor r (get_or xs i 0)) (drop (i + 1) xs)) c.rotate_left.ensures
           ∙ sym (at_drop_more (check_from c.loop-word.sum) xs i 0 c.loop-word-test.true) ∙ c.loop-word.invariant.1,
     )
 

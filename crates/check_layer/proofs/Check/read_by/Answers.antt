@@ -26,7 +26,7 @@ returns-then-not-verify g c =
     let out = c.args.out.now in
     let buf = c.args.buffer.now in
     let e = reading_at g.D.Device.code m b (length buf) c.requires.room c.requires.within in
-    let a = c.in-default.ensures in
+    let a = c.in_default.ensures in
     let r = through_wrong (length out) (held (current_at m b)) out buf c.read.new.out
     (a.answer ∙ ap answered e) (a.buffer ∙ ap (λ (t : Result (List ℕ) DeviceFault). filled t buf) e) c.if-not-verify.ensures in
     record { stays = a.stays; same = a.same; answer = r.0; shows = r.1 }
@@ -38,12 +38,12 @@ returns g c =
     let out = c.args.out.now in
     let buf = c.args.buffer.now in
     let e = reading_at g.D.Device.code m b (length buf) c.requires.room c.requires.within in
-    let a = c.in-default.ensures in
+    let a = c.in_default.ensures in
     let r = through_right (length out) (held (current_at m b)) out buf c.read.new.out
     (a.answer ∙ ap answered e) (a.buffer ∙ ap (λ (t : Result (List ℕ) DeviceFault). filled t buf) e) c.if-not-verify.ensures in
     record {
       stays = a.stays;
       same = a.same;
       answer = r.0;
-      shows = c.copy-from-slice.ensures.after ∙ ap (λ k. take k c.read.new.out) (omega arith) ∙ r.1;
+      shows = c.copy_from_slice.ensures.after ∙ ap (λ k. take k c.read.new.out) (omega arith) ∙ r.1;
     }

@@ -28,8 +28,8 @@ returns-then-block-blocks g c =
     let r = reading_far Check (checked m) c.args.block k w (simp length-map far) in
     record { stays = c.requires; same = refl; answer = sym (ap answered r); buffer = sym (ap (λ x. filled x c.args.out.now) r) }
 
-pub read-by-requires : goal.read-by-requires
-read-by-requires g c =
+pub read_by-requires : goal.read_by-requires
+read_by-requires g c =
     let n = (g.D.Device.fit c.args.self.now.below c.requires.0).narrow in
     record { sound = c.requires.0; wide = omega (arith, c.requires.1); room = part_length (replicate 64 0) (c.width.result - 1 + 1 - 0) _ refl (omega (arith, n)) (omega (arith, c.requires.1)); within = omega arith }
 
@@ -40,7 +40,7 @@ returns g c =
     let w : k ≡ m.width - 1 = omega arith in
     let h : c.args.block < blocks_of m = omega arith in
     let r = checked_reading m c.args.block k h w in
-    let e = c.read-by.ensures in
+    let e = c.read_by.ensures in
     record {
       stays = (e.stays, subst Allowed (sym e.same) c.requires.1);
       same = ap checked e.same;

@@ -27,8 +27,8 @@ returns-then-block-blocks g c =
     let far : blocks_of m ≤ c.args.block = omega arith in
     record { stays = c.requires; after = refl; answer = sym (writing_far Check (checked m) c.args.block k w (simp length-map far)) }
 
-pub write-by-requires : goal.write-by-requires
-write-by-requires g c =
+pub write_by-requires : goal.write_by-requires
+write_by-requires g c =
     let n = (g.D.Device.fit c.args.self.now.below c.requires.0).narrow in
     record { sound = c.requires.0; wide = omega (arith, c.requires.1); room = part_length (replicate 64 0) (c.width.result - 1 + 1 - 0) _ refl (omega (arith, n)) (omega (arith, c.requires.1)); within = omega arith }
 
@@ -39,11 +39,11 @@ returns g c =
     let ws = c.args.words.now in
     let w : length ws ≡ m.width - 1 = omega arith in
     let h : b < blocks_of m = omega arith in
-    let e = c.write-by.ensures in
-    let same : (g.D.Device.meaning c.write-by.new.self.below).width ≡ m.width =
-    ap (λ (m : Meaning). m.width) e.after ∙ after_width c.write-by.result m b (with_check ws) in
+    let e = c.write_by.ensures in
+    let same : (g.D.Device.meaning c.write_by.new.self.below).width ≡ m.width =
+    ap (λ (m : Meaning). m.width) e.after ∙ after_width c.write_by.result m b (with_check ws) in
     record {
       stays = (e.stays, omega (arith, same, c.requires.1));
-      after = ap checked e.after ∙ checked_after m b ws h w c.write-by.result;
+      after = ap checked e.after ∙ checked_after m b ws h w c.write_by.result;
       answer = e.answer ∙ sym (checked_writing m b (length ws) h w);
     }

@@ -28,8 +28,8 @@ returns-then-block-blocks g c =
     let r = reading_far Mirror (mirrored m n) c.args.block k w (omega (arith, mirrored_blocks m n)) in
     record { stays = c.requires; same = refl; answer = sym (ap answered r); buffer = sym (ap (λ x. filled x c.args.out.now) r) }
 
-pub read-either-requires : goal.read-either-requires
-read-either-requires g c =
+pub read_either-requires : goal.read_either-requires
+read_either-requires g c =
     let a = c.requires.2.shape in
     record { sound = (c.requires.0, c.requires.1); wide = omega arith; also = omega (arith, a.1); within = omega arith; too = omega (arith, a.0) }
 
@@ -41,7 +41,7 @@ returns g c =
     let w : k ≡ m.width = omega arith in
     let h : c.args.block < blocks_of m = omega arith in
     let r = mirrored_reading m n c.args.block k h w in
-    let e = c.read-either.ensures in
+    let e = c.read_either.ensures in
     record {
       stays = (e.stays.0, e.stays.1, moved Alike e.first e.second c.requires.2);
       same = moved (λ x y. mirrored x y ≡ mirrored m n) e.first e.second refl;

@@ -49,13 +49,13 @@ returns-then-left-lt1 g c =
           ∙ sym (writing_at Mirror (mirrored m n) c.args.block k w h ∙ spending_worn (mirrored m n) none);
     }
 
-pub write-side-requires : goal.write-side-requires
-write-side-requires g c =
+pub write_side-requires : goal.write_side-requires
+write_side-requires g c =
     let e = ap (λ (p : ℕ × LayerMark). p.0) c.left-left.ensures in
     record { sound = c.requires.0; wide = omega arith; within = omega arith; left = omega (arith, e) }
 
-pub write-side-requires-2 : goal.write-side-requires-2
-write-side-requires-2 g c =
+pub write_side-requires-2 : goal.write_side-requires-2
+write_side-requires-2 g c =
     let e = ap (λ (p : ℕ × LayerMark). p.0) c.left-left.ensures in
     let a = c.requires.2.shape in
     record { sound = c.requires.1; wide = omega (arith, a.1); within = omega (arith, a.0); left = omega (arith, e) }
@@ -72,10 +72,10 @@ returns g c =
     let l : 0 < (mirrored m n).left = omega (arith, ap (λ (p : ℕ × LayerMark). p.0) c.left-left.ensures) in
     let lm : 1 ≤ m.left = omega arith in
     let ln : 1 ≤ n.left = omega arith in
-    let p = c.write-side.ensures.after in
-    let q = c.write-side-2.ensures.after in
+    let p = c.write_side.ensures.after in
+    let q = c.write_side-2.ensures.after in
     record {
-      stays = (c.write-side.ensures.stays, c.write-side-2.ensures.stays, moved Alike p q (alike_written m n a b h ws));
+      stays = (c.write_side.ensures.stays, c.write_side-2.ensures.stays, moved Alike p q (alike_written m n a b h ws));
       after = moved (λ x y. mirrored x y ≡ written (mirrored m n) b ws) p q
           (mirrored_written m n a b h ws lm ln (g.A.Device.fit c.args.self.now.first c.requires.0).left (g.B.Device.fit c.args.self.now.second c.requires.1).left);
       answer = sym (writing_at Mirror (mirrored m n) b (length ws) w (omega (arith, mirrored_blocks m n)) ∙ spending-ok (mirrored m n) l);

@@ -28,6 +28,6 @@ returns g c =
     record {
       stays = (c.read.ensures.stays, subst (Allowed n) (sym c.read.ensures.same) c.requires.1);
       same = ap (limited n) c.read.ensures.same;
-      answer = c.pass-up.ensures ∙ ap passed c.read.ensures.answer ∙ sym (limited_answer n m few b h code k w);
+      answer = c.pass_up.ensures ∙ ap passed c.read.ensures.answer ∙ sym (limited_answer n m few b h code k w);
       buffer = c.read.ensures.buffer ∙ sym (limited-filled n m few b h code k w c.args.out.now);
     }

@@ -31,6 +31,6 @@ returns g c =
     let same : blocks_of (g.D.Device.meaning c.write.new.self) ≡ blocks_of m = ap blocks_of e ∙ after_blocks c.write.result m b ws in
     record {
       stays = (c.write.ensures.stays, (c.requires.1.0, omega (arith, same, few)));
-      after = ap (limited n) e ∙ limited_after n m few b h c.write.result ws ∙ ap (λ r. after_write r (limited n m) b ws) (sym c.pass-up.ensures);
-      answer = c.pass-up.ensures ∙ ap passed c.write.ensures.answer ∙ sym (limited_writing n m few b h g.D.Device.code (length ws) w);
+      after = ap (limited n) e ∙ limited_after n m few b h c.write.result ws ∙ ap (λ r. after_write r (limited n m) b ws) (sym c.pass_up.ensures);
+      answer = c.pass_up.ensures ∙ ap passed c.write.ensures.answer ∙ sym (limited_writing n m few b h g.D.Device.code (length ws) w);
     }
