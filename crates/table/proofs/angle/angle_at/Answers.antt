@@ -11,7 +11,7 @@ returns-then-row-speed c =
     let i = c.loop-row.row-index in
     let r = c.row-item.result in
     let b = option_map pair_of c.loop-row.before in
-    c.angle-by.ensures
+    c.angle_by.ensures
     ∙ sym (c.loop-row.invariant ∙ ap (λ t. onward b t c.args.speed) (from_row rs i r (omega arith) c.row-item.is)
     ∙ last_row b (pair_of r) (map pair_of (drop (i + 1) rs)) c.args.speed c.if-row-speed.true)
 
@@ -28,4 +28,4 @@ pub returns : goal.returns
 returns c =
     let rs = c.args.rows.now in
     let b = option_map pair_of c.loop-row.before in
-    c.angle-by-2.ensures ∙ sym (c.loop-row.invariant ∙ at_drop_all (λ t. onward b (map pair_of t) c.args.speed) rs c.loop-row.row-index (omega arith))
+    c.angle_by-2.ensures ∙ sym (c.loop-row.invariant ∙ at_drop_all (λ t. onward b (map pair_of t) c.args.speed) rs c.loop-row.row-index (omega arith))

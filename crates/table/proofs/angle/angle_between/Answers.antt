@@ -8,20 +8,20 @@ use Rattle.table.proofs.angle.angle_between.Goals as goal
 ranged : (r : Row) → InRange r.angle
 ranged r = record { low = r.ranges.1; high = r.ranges.2 }
 
-pub overflow-mul-result : goal.overflow-mul-result
-overflow-mul-result c =
+pub overflow_mul-result : goal.overflow_mul-result
+overflow_mul-result c =
     product_fits c.args.lower.angle c.args.upper.angle (c.args.speed - c.args.lower.speed) 0
     (ranged c.args.lower) (ranged c.args.upper) (omega (arith, c.args.upper.ranges.0)) (omega arith)
 
-pub nonzero-div-result : goal.nonzero-div-result
-nonzero-div-result c = (
+pub nonzero_div-result : goal.nonzero_div-result
+nonzero_div-result c = (
   omega arith,
   quotient_fits c.args.lower.angle c.args.upper.angle (c.args.speed - c.args.lower.speed) (c.args.upper.speed - c.args.lower.speed)
       (ranged c.args.lower) (ranged c.args.upper) (omega (arith, c.args.upper.ranges.0)) (omega (arith, c.args.upper.ranges.0)),
 )
 
-pub overflow-add-result : goal.overflow-add-result
-overflow-add-result c =
+pub overflow_add-result : goal.overflow_add-result
+overflow_add-result c =
     total_fits c.args.lower.angle c.args.upper.angle (c.args.speed - c.args.lower.speed) (c.args.upper.speed - c.args.lower.speed)
     (ranged c.args.lower) (ranged c.args.upper) (omega (arith, c.args.upper.ranges.0)) (omega (arith, c.args.upper.ranges.0))
 
