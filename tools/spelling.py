@@ -1,6 +1,7 @@
 #!/usr/bin/env python3
 """Brings the repository's own definitions and lemmas to the spelling of today's library: words in snake case, types in
-camel case; and renames the two crates whose names are taken by the kit. Run once, at the top, after the kit's port.py.
+camel case; and renames the two crates whose names are taken by the kit. Run it at the top, after the kit's port.py.
+A later run turns only what an earlier one left.
 
 usage: python3 tools/spelling.py [--dry]
 """
@@ -22,6 +23,12 @@ CHOSEN = {
     "slot_read": "slot_read_lem",
     "map_at": "map_at_lem",
     "read-slot": "read_slot_lem",
+    "add-all": "add_all_lem",
+    "first-speed": "first_speed_lem",
+    "form-at": "form_at_lem",
+    "is-new": "is_new_lem",
+    "ready-left": "ready_left_lem",
+    "ready-right": "ready_right_lem",
 }
 WORD = re.compile(r"[^\s(){}\[\];,.:λ\"«»⟨⟩⌜⌝|\\`]+")
 
@@ -50,10 +57,10 @@ def camel(name):
     return "".join(w[:1].upper() + w[1:] for w in name.split("-"))
 
 
-def respelled(name):
+def respelled(name, first):
     if name in KEPT:
         return name
-    if name in CHOSEN:
+    if name in CHOSEN and (first or "-" in name):
         return CHOSEN[name]
     if re.match(r"[a-z]", name) and (re.search(r"[a-z0-9][A-Z]", name) or "-" in name):
         return snake(name)
@@ -62,7 +69,7 @@ def respelled(name):
     return name
 
 
-DEF = re.compile(r"^[ \t]*(?:abbrev |unfoldable )?(?:pub )?(?:data |record )?([^\s(){}:;,]+)(?: [({][^:]*:.*)? : (.*)$", re.M)
+DEF = re.compile(r"^[ \t]*(?:abbrev |unfoldable )?(?:pub )?(?:data |record )?([^\s(){}:;,]+)(?: [({].*)? :(?: (.*))?$", re.M)
 LIB = re.compile(r"^(?:use|ghost use) (Rattle\.(\w+)[^{\n;]*|borrow[^{\n;]*|logic[^{\n;]*)\{([^}]*)\}", re.M)
 
 
@@ -70,7 +77,7 @@ def names(own):
     found, made = {}, set()
     for p in texts(".antt"):
         for m in DEF.finditer(read(p)):
-            name, kind = m.group(1), m.group(2)
+            name, kind = m.group(1), m.group(2) or ""
             if kind.startswith(("goal.", "needs.", "choices.", "given.")):
                 made.add(name)
             else:
@@ -86,7 +93,8 @@ def names(own):
 def main():
     own = {l.split(":")[0].split()[0] for l in read("crates.txt").splitlines() if ":" in l}
     found, made, library = names(own)
-    table = {n: respelled(n) for n in found}
+    first = any(c in own for c in CRATES)
+    table = {n: respelled(n, first) for n in found}
     table = {a: b for a, b in table.items() if a != b}
     for n in sorted(set(table) & library):
         print("library:", n, found[n])

@@ -33,8 +33,8 @@ next_held ks i level h m cs cs' c low lt d =
     }
 
 -- a block with other references loses one
-pub dropped-one : (x v : ℕ) (m : Meaning) (cs cs' : List ℕ) → cs' ≡ set cs x v → get_or cs x 0 ≡ v + 1 → 0 < v → Dropped (x ∷ []) m cs cs'
-dropped-one x v m cs cs' e n p h c =
+pub dropped_one : (x v : ℕ) (m : Meaning) (cs cs' : List ℕ) → cs' ≡ set cs x v → get_or cs x 0 ≡ v + 1 → 0 < v → Dropped (x ∷ []) m cs cs'
+dropped_one x v m cs cs' e n p h c =
     subst (λ ds. Counted (block_at m) ds h) (sym e) (drop_one (block_at m) cs h x v (recount (λ b. occ b (x ∷ []) + h b) (λ b. one x b + h b) (λ b. omega arith) c) n p)
 
 -- a block's count falls to 0: now its children are held
@@ -45,8 +45,8 @@ fallen x ks h m cs cs' n e k c =
     subst (λ ds. Counted (block_at m) ds (λ b. occ b ks + h b)) (sym e) low
 
 -- a block loses its last reference, and its children theirs from it
-pub dropped-last : (x : ℕ) (ks : List ℕ) (m : Meaning) (cs cs' cs'' : List ℕ) → get_or cs x 0 ≡ 1 → cs' ≡ set cs x 0 → ks ≡ kids_of (block_at m x) → Dropped ks m cs' cs'' → Dropped (x ∷ []) m cs cs''
-dropped-last x ks m cs cs' cs'' n e k d h c = d h (fallen x ks h m cs cs' n e k (recount (λ b. occ b (x ∷ []) + h b) (λ b. one x b + h b) (λ b. omega arith) c))
+pub dropped_last : (x : ℕ) (ks : List ℕ) (m : Meaning) (cs cs' cs'' : List ℕ) → get_or cs x 0 ≡ 1 → cs' ≡ set cs x 0 → ks ≡ kids_of (block_at m x) → Dropped ks m cs' cs'' → Dropped (x ∷ []) m cs cs''
+dropped_last x ks m cs cs' cs'' n e k d h c = d h (fallen x ks h m cs cs' n e k (recount (λ b. occ b (x ∷ []) + h b) (λ b. one x b + h b) (λ b. omega arith) c))
 
 -- the next child, in the loop over the children of a block whose count fell to 0
 pub next_child : (x level : ℕ) (ks : List ℕ) (i : ℕ) (m : Meaning) (cs cs' cs'' : List ℕ) → Held m cs x level → get_or cs x 0 ≡ 1 → cs' ≡ set cs x 0 → ks ≡ kids_of (block_at m x) → i < length ks
@@ -62,5 +62,5 @@ leaf_none None e = refl
 leaf_none (Some n) e = ap (λ l. children l n.entries) e
 
 -- a leaf loses its last reference
-pub dropped-leaf : (x : ℕ) (m : Meaning) (cs cs' : List ℕ) → get_or cs x 0 ≡ 1 → cs' ≡ set cs x 0 → level_of (block_at m x) ≡ 0 → Dropped (x ∷ []) m cs cs'
-dropped-leaf x m cs cs' n e z = dropped-last x [] m cs cs' cs' n e (sym (leaf_none (block_at m x) z)) (dropped_none m cs')
+pub dropped_leaf : (x : ℕ) (m : Meaning) (cs cs' : List ℕ) → get_or cs x 0 ≡ 1 → cs' ≡ set cs x 0 → level_of (block_at m x) ≡ 0 → Dropped (x ∷ []) m cs cs'
+dropped_leaf x m cs cs' n e z = dropped_last x [] m cs cs' cs' n e (sym (leaf_none (block_at m x) z)) (dropped_none m cs')

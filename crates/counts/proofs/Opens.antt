@@ -6,7 +6,7 @@ use Rattle.device.specs.Meaning.{Meaning, Content, words, damaged, current_at}
 use Rattle.page.specs.Block.{Block, kids_of, level_of, block_at, children, decode, block_in, read, encode, same, fits}
 use Rattle.counts.specs.Counts.{one, occ, live, parents, Counted, add_all, opened, Roomy}
 use Rattle.counts.proofs.Parents.{one_same, one_other, live_pos, parents_ge}
-use Rattle.counts.proofs.Steps.{within, held, drop_one, drop_last, add-one-more}
+use Rattle.counts.proofs.Steps.{within, held, drop_one, drop_last, add_one_more}
 
 pub occ_append : (b : ℕ) (xs ys : List ℕ) → occ b (xs ++ ys) ≡ occ b xs + occ b ys
 occ_append b [] ys = omega arith
@@ -40,30 +40,30 @@ add_all_ge [] cs b = omega arith
 add_all_ge (k ∷ ks) cs b = omega (arith, add_ge cs k b, add_all_ge ks (set cs k (get_or cs k 0 + 1)) b)
 
 -- references to alive blocks are added
-pub add-all : (g : ℕ → Option Block) (ks cs : List ℕ) (h : ℕ → ℕ) → ((k : ℕ) → 0 < occ k ks → 0 < get_or cs k 0) → Counted g cs h → Counted g (add_all ks cs) (λ b. occ b ks + h b)
-add-all g [] cs h alive c = recount h (λ b. 0 + h b) (λ b. omega arith) c
-add-all g (k ∷ ks) cs h alive c =
+pub add_all_lem : (g : ℕ → Option Block) (ks cs : List ℕ) (h : ℕ → ℕ) → ((k : ℕ) → 0 < occ k ks → 0 < get_or cs k 0) → Counted g cs h → Counted g (add_all ks cs) (λ b. occ b ks + h b)
+add_all_lem g [] cs h alive c = recount h (λ b. 0 + h b) (λ b. omega arith) c
+add_all_lem g (k ∷ ks) cs h alive c =
     let a : 0 < get_or cs k 0 = alive k (omega (arith, one_same k k refl)) in
     recount (λ b. occ b ks + (one k b + h b)) (λ b. occ b (k ∷ ks) + h b) (λ b. omega arith)
-    (add-all g ks (set cs k (get_or cs k 0 + 1)) (λ b. one k b + h b) (λ y p. omega (arith, add_ge cs k y, alive y (omega arith))) (add-one-more g cs h k c a))
+    (add_all_lem g ks (set cs k (get_or cs k 0 + 1)) (λ b. one k b + h b) (λ y p. omega (arith, add_ge cs k y, alive y (omega arith))) (add_one_more g cs h k c a))
 
 -- a block's node has few children
-few-in : (ws : List ℕ) (b : Bool) → b ≡ fits (read ws) → (t : Bool) → length (kids_of (cond (b && t) (Some (read ws)) None)) ≤ 15
-few-in ws false e t = omega arith
-few-in ws true e false = omega arith
-few-in ws true e true = few_at (read ws).level (read ws).entries (leb-true (length (read ws).entries) 15 (and_parts (leb (length (read ws).entries) 15) (ltb (read ws).level 5) (sym e)).0)
+few_in : (ws : List ℕ) (b : Bool) → b ≡ fits (read ws) → (t : Bool) → length (kids_of (cond (b && t) (Some (read ws)) None)) ≤ 15
+few_in ws false e t = omega arith
+few_in ws true e false = omega arith
+few_in ws true e true = few_at (read ws).level (read ws).entries (leb-true (length (read ws).entries) 15 (and_parts (leb (length (read ws).entries) 15) (ltb (read ws).level 5) (sym e)).0)
   where
     few_at : (l : ℕ) (es : List (ℕ × ℕ)) → length es ≤ 15 → length (children l es) ≤ 15
     few_at zero es h = omega arith
     few_at (suc l) es h = omega (arith, length-map es (λ e. e.1))
 
 few_content : (k : Content) → length (kids_of (block_in k)) ≤ 15
-few_content (words ws) = few-in ws (fits (read ws)) refl (same ws (encode (length ws) (read ws)))
+few_content (words ws) = few_in ws (fits (read ws)) refl (same ws (encode (length ws) (read ws)))
 few_content (damaged m) = omega arith
 
-pub few-kids : (m : Meaning) (x : ℕ) → length (kids_of (block_at m x)) ≤ 15
+pub few_kids : (m : Meaning) (x : ℕ) → length (kids_of (block_at m x)) ≤ 15
 unfolding block_at
-few-kids m x = few_content (current_at m x)
+few_kids m x = few_content (current_at m x)
 
 pub occ_le : (b : ℕ) (ks : List ℕ) → occ b ks ≤ length ks
 occ_le b [] = omega arith
@@ -76,7 +76,7 @@ parents_le kids (suc c ∷ cs) b h = omega (arith, occ_le b (kids 0), h 0, paren
 
 -- a count fits 16 bits
 pub count_le : (m : Meaning) (cs : List ℕ) (h : ℕ → ℕ) (b : ℕ) → Counted (block_at m) cs h → h b ≤ 2001 → length cs ≤ 4096 → get_or cs b 0 ≤ 65000
-count_le m cs h b c k l = omega (arith, c.eqn b, parents_le (λ x. kids_of (block_at m x)) cs b (few-kids m))
+count_le m cs h b c k l = omega (arith, c.eqn b, parents_le (λ x. kids_of (block_at m x)) cs b (few_kids m))
 
 -- the children of an alive block are alive
 pub kids_alive : (m : Meaning) (cs : List ℕ) (h : ℕ → ℕ) (x k : ℕ) → Counted (block_at m) cs h → 0 < get_or cs x 0 → 0 < occ k (kids_of (block_at m x)) → 0 < get_or cs k 0
@@ -90,14 +90,14 @@ pub roomy : (m : Meaning) (cs : List ℕ) (h : ℕ → ℕ) (x : ℕ) → Counte
 roomy m cs h x c small few =
     let a = held_alive (block_at m) cs h x c in
     record {
-      few = few-kids m x;
+      few = few_kids m x;
       within = λ i l. within cs (get_or (kids_of (block_at m x)) i 0) (kids_alive m cs _ x (get_or (kids_of (block_at m x)) i 0) c a (occ_at (kids_of (block_at m x)) i l));
       small = λ b. count_le m cs (λ n. one x n + h n) b c (⊎_elim (λ e. omega (arith, one_same x b e, small b)) (λ ne. omega (arith, one_other x b ne, small b)) (cases_eq b x)) few;
     }
 
-pub length-add-all : (ks cs : List ℕ) → length (add_all ks cs) ≡ length cs
-length-add-all [] cs = refl
-length-add-all (k ∷ ks) cs = length-add-all ks (set cs k (get_or cs k 0 + 1)) ∙ length-set cs k (get_or cs k 0 + 1)
+pub length_add_all : (ks cs : List ℕ) → length (add_all ks cs) ≡ length cs
+length_add_all [] cs = refl
+length_add_all (k ∷ ks) cs = length_add_all ks (set cs k (get_or cs k 0 + 1)) ∙ length-set cs k (get_or cs k 0 + 1)
 
 abbrev after : List ℕ → ℕ → List ℕ → Bool → List ℕ
 after ks x cs b = cond b (set cs x 0) (set (add_all ks cs) x (get_or (add_all ks cs) x 0 - 1))
@@ -114,7 +114,7 @@ open_counted m cs h x c =
     (λ ne. subst to (sym (ne_eqb (get_or cs x 0) 1 ne))
     (drop_one (block_at m) ds (λ b. occ b ks + h b) x (get_or ds x 0 - 1)
     (recount (λ b. occ b ks + (one x b + h b)) (λ b. one x b + (occ b ks + h b)) (λ b. omega arith)
-    (add-all (block_at m) ks cs (λ b. one x b + h b) (λ k q. kids_alive m cs (λ b. one x b + h b) x k c a q) c))
+    (add_all_lem (block_at m) ks cs (λ b. one x b + h b) (λ k q. kids_alive m cs (λ b. one x b + h b) x k c a q) c))
     (omega (arith, add_all_ge ks cs x)) (omega (arith, add_all_ge ks cs x))))
     (cases_eq (get_or cs x 0) 1)
 
@@ -143,7 +143,7 @@ length_opened ks x cs = go (eqb (get_or cs x 0) 1)
   where
     go : (t : Bool) → length (after ks x cs t) ≡ length cs
     go true = length-set cs x 0
-    go false = length-set (add_all ks cs) x _ ∙ length-add-all ks cs
+    go false = length-set (add_all ks cs) x _ ∙ length_add_all ks cs
 
 -- the loop's step
 pub add_next : (ks cs ds : List ℕ) (i k : ℕ) → i < length ks → get_or ks i 0 ≡ k → ds ≡ set cs k (get_or cs k 0 + 1) → add_all (drop (i + 1) ks) ds ≡ add_all (drop i ks) cs

@@ -4,7 +4,7 @@ use Rattle.std.proofs.lemmas.Bool.{cases_eq, cases_lt}
 use Rattle.std.proofs.lemmas.List.{get_or-set_same, get_or-set_other, get_or_past}
 use Rattle.page.specs.Block.{Block, kids_of, level_of}
 use Rattle.counts.specs.Counts.{one, occ, live, parents, Counted, Reached, root, child, AliveIsReached}
-use Rattle.counts.proofs.Parents.{one_same, one_other, live_pos, parents-set, parents_ge, parents_same, parents_some}
+use Rattle.counts.proofs.Parents.{one_same, one_other, live_pos, parents_set, parents_ge, parents_same, parents_some}
 
 pub within : (cs : List ℕ) (x : ℕ) → 0 < get_or cs x 0 → x < length cs
 within cs x h = ⊎_elim (λ l. l) (λ past. absurd (omega (arith, get_or_past cs x 0 past))) (cases_lt x (length cs))
@@ -26,7 +26,7 @@ module _ (g : ℕ → Option Block) where
   drop_one cs h x v c e p =
       let hx : 0 < get_or cs x 0 = omega arith in
       let lt : x < length cs = within cs x hx in
-      let step = λ (b : ℕ). parents-set (λ y. kids_of (g y)) cs x v b lt in
+      let step = λ (b : ℕ). parents_set (λ y. kids_of (g y)) cs x v b lt in
       record {
         eqn = λ b. ⊎_elim
             (λ s. omega (arith, c.eqn b, ap (λ n. get_or cs n 0) s, step b, one_same x b s, at_same cs x v b lt s, live_pos (get_or cs x 0) (occ b (kids_of (g x))) hx, live_pos v (occ b (kids_of (g x))) p))
@@ -41,7 +41,7 @@ module _ (g : ℕ → Option Block) where
   drop_last cs h x c e =
       let hx : 0 < get_or cs x 0 = omega arith in
       let lt : x < length cs = within cs x hx in
-      let step = λ (b : ℕ). parents-set (λ y. kids_of (g y)) cs x 0 b lt in
+      let step = λ (b : ℕ). parents_set (λ y. kids_of (g y)) cs x 0 b lt in
       record {
         eqn = λ b. ⊎_elim
             (λ s. omega (arith, c.eqn b, ap (λ n. get_or cs n 0) s, step b, one_same x b s, at_same cs x 0 b lt s, live_pos (get_or cs x 0) (occ b (kids_of (g x))) hx, parents_ge (λ y. kids_of (g y)) cs x b hx))
@@ -52,11 +52,11 @@ module _ (g : ℕ → Option Block) where
       }
 
   -- one reference more to a block that is alive
-  pub add-one-more : (cs : List ℕ) (h : ℕ → ℕ) (x : ℕ) → Counted g cs h → 0 < get_or cs x 0 → Counted g (set cs x (get_or cs x 0 + 1)) (λ b. one x b + h b)
-  add-one-more cs h x c hx =
+  pub add_one_more : (cs : List ℕ) (h : ℕ → ℕ) (x : ℕ) → Counted g cs h → 0 < get_or cs x 0 → Counted g (set cs x (get_or cs x 0 + 1)) (λ b. one x b + h b)
+  add_one_more cs h x c hx =
       let lt : x < length cs = within cs x hx in
       let v : ℕ = get_or cs x 0 + 1 in
-      let step = λ (b : ℕ). parents-set (λ y. kids_of (g y)) cs x (get_or cs x 0 + 1) b lt in
+      let step = λ (b : ℕ). parents_set (λ y. kids_of (g y)) cs x (get_or cs x 0 + 1) b lt in
       record {
         eqn = λ b. ⊎_elim
             (λ s. omega (arith, c.eqn b, ap (λ n. get_or cs n 0) s, step b, one_same x b s, at_same cs x (get_or cs x 0 + 1) b lt s, live_pos (get_or cs x 0) (occ b (kids_of (g x))) hx, live_pos (get_or cs x 0 + 1) (occ b (kids_of (g x))) (omega arith)))
@@ -71,7 +71,7 @@ module _ (g : ℕ → Option Block) where
       → (is_some (g' x) ≡ true) × (level_of (g' x) < 5) → ((y : ℕ) → 0 < occ y (kids_of (g' x)) → level_of (g y) + 1 ≡ level_of (g' x))
       → Counted g cs (λ b. occ b (kids_of (g' x)) + h b) → Counted g' (set cs x 1) (λ b. one x b + h b)
   link_in g' cs h x same free lt node low c =
-      let step = λ (b : ℕ). parents-set (λ y. kids_of (g' y)) cs x 1 b lt in
+      let step = λ (b : ℕ). parents_set (λ y. kids_of (g' y)) cs x 1 b lt in
       let dead = λ (b : ℕ). ap (λ n. live n (occ b (kids_of (g' x)))) free in
       let old = λ (b : ℕ). parents_same (λ y. kids_of (g' y)) (λ y. kids_of (g y)) cs b (λ k a. ap kids_of (same k (λ e. absurd (omega (arith, ap (λ n. get_or cs n 0) e))))) in
       record {
@@ -96,20 +96,20 @@ module _ (g : ℕ → Option Block) where
             (cases_eq y x);
       }
 
-  reached-alive : (cs : List ℕ) (h : ℕ → ℕ) → Counted g cs h → (b : ℕ) → Reached g h b → 0 < get_or cs b 0
-  reached-alive cs h c b (root p) = omega (arith, c.eqn b)
-  reached-alive cs h c b (child {x = x} r k) =
-      omega (arith, c.eqn b, parents_ge (λ y. kids_of (g y)) cs x b (reached-alive cs h c x r))
+  reached_alive : (cs : List ℕ) (h : ℕ → ℕ) → Counted g cs h → (b : ℕ) → Reached g h b → 0 < get_or cs b 0
+  reached_alive cs h c b (root p) = omega (arith, c.eqn b)
+  reached_alive cs h c b (child {x = x} r k) =
+      omega (arith, c.eqn b, parents_ge (λ y. kids_of (g y)) cs x b (reached_alive cs h c x r))
 
-  alive-reached : (cs : List ℕ) (h : ℕ → ℕ) → Counted g cs h → (d b : ℕ) → level_of (g b) + d ≡ 5 → 0 < get_or cs b 0 → Reached g h b
-  alive-reached cs h c zero b e a = absurd (omega (arith, (c.nodes b a).1))
-  alive-reached cs h c (suc d) b e a =
+  alive_reached : (cs : List ℕ) (h : ℕ → ℕ) → Counted g cs h → (d b : ℕ) → level_of (g b) + d ≡ 5 → 0 < get_or cs b 0 → Reached g h b
+  alive_reached cs h c zero b e a = absurd (omega (arith, (c.nodes b a).1))
+  alive_reached cs h c (suc d) b e a =
       ⊎_elim (λ p. root p)
       (λ no.
       let s = parents_some (λ y. kids_of (g y)) cs b (omega (arith, c.eqn b)) in
-      child (alive-reached cs h c d s.0 (omega (arith, c.lower s.0 b s.1 s.2)) s.1) s.2)
+      child (alive_reached cs h c d s.0 (omega (arith, c.lower s.0 b s.1 s.2)) s.1) s.2)
       (cases_lt 0 (h b))
 
 pub alive_is_reached : AliveIsReached
 alive_is_reached g cs h c b =
-    (λ a. alive-reached g cs h c (5 - level_of (g b)) b (omega (arith, (c.nodes b a).1)) a, reached-alive g cs h c b)
+    (λ a. alive_reached g cs h c (5 - level_of (g b)) b (omega (arith, (c.nodes b a).1)) a, reached_alive g cs h c b)

@@ -45,8 +45,8 @@ pub after_width : (r : Result Unit DeviceFault) (m : Meaning) (b : ℕ) (ws : Li
 after_width (Ok u) m b ws = refl
 after_width (Err e) m b ws = refl
 
-pub spending-ok : (m : Meaning) → 0 < m.left → spending m ≡ Ok tt
-spending-ok m h = let e = lt-ltb 0 m.left h in rw e
+pub spending_ok : (m : Meaning) → 0 < m.left → spending m ≡ Ok tt
+spending_ok m h = let e = lt-ltb 0 m.left h in rw e
 
 pub spending_worn : (m : Meaning) → m.left ≤ 0 → spending m ≡ Err (Worn m.left_mark)
 spending_worn m h = let e = le-ltb 0 m.left h in rw e
@@ -54,4 +54,4 @@ spending_worn m h = let e = le-ltb 0 m.left h in rw e
 -- a write that was allowed
 pub write_done : (l : Layer) (m n : Meaning) (b : ℕ) (ws : List ℕ) (r : Result Unit DeviceFault) → length ws ≡ m.width → b < blocks_of m → 0 < m.left
     → r ≡ writing l m b (length ws) → n ≡ after_write r m b ws → n ≡ written m b ws
-write_done l m n b ws r w h some p q = q ∙ ap (λ t. after_write t m b ws) (p ∙ writing_at l m b (length ws) w h ∙ spending-ok m some)
+write_done l m n b ws r w h some p q = q ∙ ap (λ t. after_write t m b ws) (p ∙ writing_at l m b (length ws) w h ∙ spending_ok m some)

@@ -25,8 +25,8 @@ map_at_lem [] b = refl
 map_at_lem (c ∷ cs) zero = refl
 map_at_lem (c ∷ cs) (suc b) = map_at_lem cs b
 
-pub flush-at : (m : Meaning) (b : ℕ) → cell_at (flushed m) b ≡ flushed_cell (cell_at m b)
-flush-at m b = map_at_lem m.cells b
+pub flush_at : (m : Meaning) (b : ℕ) → cell_at (flushed m) b ≡ flushed_cell (cell_at m b)
+flush_at m b = map_at_lem m.cells b
 
 pub write_at : (m : Meaning) (b : ℕ) (ws : List ℕ) → b < blocks_of m → cell_at (written m b ws) b ≡ written_cell ws (cell_at m b)
 write_at m b ws h = get_or-set_same m.cells b (written_cell ws (cell_at m b)) no_cell h
@@ -48,14 +48,14 @@ width_replay (write b ws ∷ os) m = width_replay os (apply (write b ws) m)
 width_replay (flush ∷ os) m = width_replay os (apply flush m)
 
 -- by choice, so by the rule
-remains-cut : (w n : ℕ) (k : Choice) (c : Cell) → c.mark ≡ n → LawfulCell w c → Fits w k → CutTo w c (remains n k c)
-remains-cut w zero k c e l f = inl (e, refl)
-remains-cut w (suc zero) old c e l f = inr (inl (e, inl refl))
-remains-cut w (suc zero) new c e l f = inr (inl (e, inr refl))
-remains-cut w (suc zero) (other x) c e l f = inr (inl (e, inr refl))
-remains-cut w (suc (suc n)) old c e l f = inr (inr (omega arith, l.persisted))
-remains-cut w (suc (suc n)) new c e l f = inr (inr (omega arith, l.current))
-remains-cut w (suc (suc n)) (other x) c e l f = inr (inr (omega arith, f))
+remains_cut : (w n : ℕ) (k : Choice) (c : Cell) → c.mark ≡ n → LawfulCell w c → Fits w k → CutTo w c (remains n k c)
+remains_cut w zero k c e l f = inl (e, refl)
+remains_cut w (suc zero) old c e l f = inr (inl (e, inl refl))
+remains_cut w (suc zero) new c e l f = inr (inl (e, inr refl))
+remains_cut w (suc zero) (other x) c e l f = inr (inl (e, inr refl))
+remains_cut w (suc (suc n)) old c e l f = inr (inr (omega arith, l.persisted))
+remains_cut w (suc (suc n)) new c e l f = inr (inr (omega arith, l.current))
+remains_cut w (suc (suc n)) (other x) c e l f = inr (inr (omega arith, f))
 
 all_at : (P : Cell → Type 0) (cs : List Cell) (b : ℕ) → All P cs → b < length cs → P (get_or cs b no_cell)
 all_at P [] b a h = absurd (omega arith)
@@ -70,7 +70,7 @@ to_rule κ m l f h = record {
   cells = λ b i. subst (λ d. CutCell m.width (cell_at m b) d) (sym (cut_at κ m b)) (record {
     mark = refl;
     equal = refl;
-    from = remains-cut m.width (cell_at m b).mark (κ.choice b) (cell_at m b) refl (all_at (LawfulCell m.width) m.cells b l.cells i) (f b);
+    from = remains_cut m.width (cell_at m b).mark (κ.choice b) (cell_at m b) refl (all_at (LawfulCell m.width) m.cells b l.cells i) (f b);
   });
 }
 

@@ -5,7 +5,7 @@ use Rattle.tree.specs.Node.{ins, first, ahead, map_e}
 use Rattle.tree.specs.Tree.{Pay, Tree}
 use Rattle.page.specs.Block.{Block, block_at, kids_of}
 use Rattle.counts.specs.Counts.{opened}
-use Rattle.edit.specs.Plan.{shallow, page, node_of, chosen, parted, placed, links, down, put_n, kidMoves, moves}
+use Rattle.edit.specs.Plan.{shallow, page, node_of, chosen, parted, placed, links, down, put_n, kid_moves, moves}
 use Rattle.counts.specs.Moves.{Move, opening, linking, State, state_of, step, writes, Laid}
 use Rattle.edit.specs.Able.{Ready, Able, Made, Open}
 use Rattle.counts.specs.Moves.{Wide, Owned}
@@ -38,7 +38,7 @@ down_writes s n f h (e ∷ r) = go (ahead s r) (down_writes s n f h r)
 pub moves_writes : (gs : List ℕ) (s a l : ℕ) (es : List (ℕ × Pay ℕ ℕ l)) → writes (moves gs s a l es) ≤ 2 * l
 moves_writes gs s a zero es = omega arith
 moves_writes gs s a (suc l) es =
-    down_writes s (2 * suc l) (kidMoves gs s a l (moves gs s a l))
+    down_writes s (2 * suc l) (kid_moves gs s a l (moves gs s a l))
     (λ k t. let ps = parted s k t.1 (put_n gs s a l (chosen s t.1)) in
     omega (
       arith,

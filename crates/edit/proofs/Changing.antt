@@ -7,11 +7,11 @@ use Rattle.tree.specs.Tree.{Pay, Tree, Root, over, over_root, put_e, put_root, o
 use Rattle.tree.specs.Stored.{same}
 use Rattle.tree.specs.Numbered.{onward, beside, numbers, numbered}
 use Rattle.tree.specs.Apart.{along, collect, its_place, places}
-use Rattle.tree.proofs.Over.{map_take, map_drop, map_length, map_first, map-ahead}
+use Rattle.tree.proofs.Over.{map_take, map_drop, map_length, map_first, map_ahead}
 use Rattle.counts.specs.Counts.{one, occ}
 use Rattle.counts.proofs.Opens.{occ_append}
-use Rattle.edit.specs.Plan.{shallow, chosen, parted, placed, links, down, kid_n, put_n, kidMoves, moves, put_root_n}
-use Rattle.edit.proofs.Traces.{linked, linked-append}
+use Rattle.edit.specs.Plan.{shallow, chosen, parted, placed, links, down, kid_n, put_n, kid_moves, moves, put_root_n}
+use Rattle.edit.proofs.Traces.{linked, linked_append}
 
 abbrev O : Type 0
 O = Option ℕ
@@ -63,8 +63,8 @@ module _ (pick : ℕ → ℕ) where
   numbers_old zero (e ∷ r) = ap (λ (z : List (ℕ × ℕ)). e ∷ z) (numbers_old zero r)
   numbers_old (suc l) es = beside_from l (numbers_old l) (2 * l) es
 
-  beside-old : (l i : ℕ) (es : List (ℕ × Tree ℕ ℕ l)) → beside pick (numb l) i (2 * l + 1) (map_e (F (suc l)) es) ≡ es
-  beside-old l i es = beside_from l (numbers_old l) i es
+  beside_old : (l i : ℕ) (es : List (ℕ × Tree ℕ ℕ l)) → beside pick (numb l) i (2 * l + 1) (map_e (F (suc l)) es) ≡ es
+  beside_old l i es = beside_from l (numbers_old l) i es
 
   -- how often b is picked
   abbrev picked : ℕ → List ℕ → ℕ
@@ -77,8 +77,8 @@ module _ (pick : ℕ → ℕ) where
   two_picked b x y i j n xs ys zs ex ey en ez =
       omega (arith, ap (λ z. one z b) ex, ap (λ z. one z b) ey, en, ap (picked b) ez, picked_append b xs ((j ∷ ys) ++ zs), picked_append b ys zs)
 
-  one-picked : (b x i : ℕ) (xs zs : List ℕ) → x ≡ pick i → zs ≡ [] → occ b (x ∷ []) + picked b xs ≡ picked b ((i ∷ xs) ++ zs)
-  one-picked b x i xs zs ex ez = omega (arith, ap (λ z. one z b) ex, ap (picked b) ez, picked_append b xs zs)
+  one_picked : (b x i : ℕ) (xs zs : List ℕ) → x ≡ pick i → zs ≡ [] → occ b (x ∷ []) + picked b xs ≡ picked b ((i ∷ xs) ++ zs)
+  one_picked b x i xs zs ex ez = omega (arith, ap (λ z. one z b) ex, ap (picked b) ez, picked_append b xs zs)
 
   module _ (gs : List ℕ) (s a : ℕ) where
     abbrev put : (l : ℕ) → List (ℕ × Pay O ℕ l) → List (ℕ × Pay O ℕ l)
@@ -94,7 +94,7 @@ module _ (pick : ℕ → ℕ) where
 
       kid_numbers : us ≡ numb l (put l (map_e (F l) (chosen s es))) → placed x y (parted s k es us) ++ r ≡ beside pick (numb l) (2 * l) (2 * l + 1) (kid None s (put l) k (F (suc l) (m, es)) ++ map_e (F (suc l)) r)
       kid_numbers =
-          let rest = sym (beside-old l (2 * l + 1) r) in
+          let rest = sym (beside_old l (2 * l + 1) r) in
           let low = sym (numbers_old l (take 7 es)) in
           let high = sym (numbers_old l (drop 7 es)) in
           ⊎_elim
@@ -121,7 +121,7 @@ module _ (pick : ℕ → ℕ) where
           (λ v. rw (map_length (F l) es, eq-eqb (length es) 15 n, ← map_drop (F l) 7 es, ← map_take (F l) 7 es, map_first (F l) (drop 7 es), le-ltb s (first (drop 7 es)) v)
           (two_picked b x y (2 * l) (2 * l + 1) _ (C l (map_e (F l) (take 7 es))) (C l (put l (map_e (F l) (drop 7 es)))) (A (2 * l + 1)) hx hy (omega (arith, low)) rest))
           (cases_lt s (first (drop 7 es))))
-          (λ n. rw (map_length (F l) es, ne_eqb (length es) 15 n) (one-picked b x (2 * l) (C l (put l (map_e (F l) es))) (A (2 * l + 1)) hx rest))
+          (λ n. rw (map_length (F l) es, ne_eqb (length es) 15 n) (one_picked b x (2 * l) (C l (put l (map_e (F l) es))) (A (2 * l + 1)) hx rest))
           (cases_eq (length es) 15)
 
     pub put_numbers : (l : ℕ) (es : List (ℕ × Pay ℕ ℕ l)) → ((j : ℕ) → j < 2 * l → get_or gs j 0 ≡ pick j) → put_n gs s a l es ≡ numb l (put l (map_e (F l) es))
@@ -132,7 +132,7 @@ module _ (pick : ℕ → ℕ) where
             → (es : List (ℕ × Tree ℕ ℕ l)) → at s (kid_n gs s a l (put_n gs s a l)) es ≡ beside pick (numb l) (2 * l) (2 * l + 1) (at s (kid None s (put l)) (map_e (F (suc l)) es))
         go ih [] = refl
         go ih (e ∷ r) =
-            rw (map-ahead (F (suc l)) s r)
+            rw (map_ahead (F (suc l)) s r)
             (by (ahead s r) (kid_numbers l e.0 e.1.0 e.1.1 (put_n gs s a l (chosen s e.1.1)) r (h (2 * l) (omega arith)) (h (2 * l + 1) (omega arith)) (ih (chosen s e.1.1))) (go ih r))
           where
             by : (b : Bool) → kid_n gs s a l (put_n gs s a l) e.0 e.1 ++ r ≡ beside pick (numb l) (2 * l) (2 * l + 1) (kid None s (put l) e.0 (F (suc l) e.1) ++ map_e (F (suc l)) r)
@@ -147,21 +147,21 @@ module _ (pick : ℕ → ℕ) where
     put_picked b (suc l) es h = go (λ es. put_picked b l es (λ j lt. h j (omega arith))) es
       where
         go : ((es : List (ℕ × Pay ℕ ℕ l)) → occ b (linked (moves gs s a l es)) ≡ picked b (C l (put l (map_e (F l) es))))
-            → (es : List (ℕ × Tree ℕ ℕ l)) → occ b (linked (down s (kidMoves gs s a l (moves gs s a l)) es)) ≡ picked b (along (its_place ℕ l) (C l) (2 * l) (2 * l + 1) (at s (kid None s (put l)) (map_e (F (suc l)) es)))
+            → (es : List (ℕ × Tree ℕ ℕ l)) → occ b (linked (down s (kid_moves gs s a l (moves gs s a l)) es)) ≡ picked b (along (its_place ℕ l) (C l) (2 * l) (2 * l + 1) (at s (kid None s (put l)) (map_e (F (suc l)) es)))
         go ih [] = refl
         go ih (e ∷ r) =
             let us = put_n gs s a l (chosen s e.1.1) in
             let ms = moves gs s a l (chosen s e.1.1) in
             let ls = links l (map_e (λ c. (c.0, shallow l c.1)) (kid_n gs s a l (put_n gs s a l) e.0 e.1)) in
-            rw (map-ahead (F (suc l)) s r)
+            rw (map_ahead (F (suc l)) s r)
             (by (ahead s r)
-            (ap (occ b) (linked-append ms ls)
+            (ap (occ b) (linked_append ms ls)
             ∙ omega (arith, occ_append b (linked ms) (linked ls), ih (chosen s e.1.1), kid_picked l e.0 e.1.0 e.1.1 us r (h (2 * l) (omega arith)) (h (2 * l + 1) (omega arith)) b))
             (go ih r))
           where
-            by : (t : Bool) → occ b (linked (kidMoves gs s a l (moves gs s a l) e.0 e.1)) ≡ picked b (along (its_place ℕ l) (C l) (2 * l) (2 * l + 1) (kid None s (put l) e.0 (F (suc l) e.1) ++ map_e (F (suc l)) r))
-                → occ b (linked (down s (kidMoves gs s a l (moves gs s a l)) r)) ≡ picked b (along (its_place ℕ l) (C l) (2 * l) (2 * l + 1) (at s (kid None s (put l)) (map_e (F (suc l)) r)))
-                → occ b (linked (cond t (kidMoves gs s a l (moves gs s a l) e.0 e.1) (down s (kidMoves gs s a l (moves gs s a l)) r)))
+            by : (t : Bool) → occ b (linked (kid_moves gs s a l (moves gs s a l) e.0 e.1)) ≡ picked b (along (its_place ℕ l) (C l) (2 * l) (2 * l + 1) (kid None s (put l) e.0 (F (suc l) e.1) ++ map_e (F (suc l)) r))
+                → occ b (linked (down s (kid_moves gs s a l (moves gs s a l)) r)) ≡ picked b (along (its_place ℕ l) (C l) (2 * l) (2 * l + 1) (at s (kid None s (put l)) (map_e (F (suc l)) r)))
+                → occ b (linked (cond t (kid_moves gs s a l (moves gs s a l) e.0 e.1) (down s (kid_moves gs s a l (moves gs s a l)) r)))
                 ≡ picked b (along (its_place ℕ l) (C l) (2 * l) (2 * l + 1) (cond t (kid None s (put l) e.0 (F (suc l) e.1) ++ map_e (F (suc l)) r) ((e.0, F (suc l) e.1) ∷ at s (kid None s (put l)) (map_e (F (suc l)) r))))
             by true p q = p
             by false p q = q ∙ ap (λ (z : List ℕ). picked b (z ++ along (its_place ℕ l) (C l) (2 * l) (2 * l + 1) (at s (kid None s (put l)) (map_e (F (suc l)) r)))) (sym (none_new l e.1.1))
@@ -179,9 +179,9 @@ module _ (pick : ℕ → ℕ) where
         ∙ only_numbers l (get_or gs (2 * suc l) 0) (put (suc l) ((0, F (suc l) t.1) ∷ [])) (h (2 * suc l) (omega arith))
         ∙ ap (numbered ℕ pick) (below_one O ℕ None s a l (F (suc l) t.1))
 
-    numbers-length : (l i : ℕ) (us : List (ℕ × Tree O ℕ l)) → length (beside pick (numb l) i (2 * l + 1) us) ≡ length us
-    numbers-length l i [] = refl
-    numbers-length l i (e ∷ r) = ap suc (numbers-length l (onward e.1.0 i (2 * l + 1)) r)
+    numbers_length : (l i : ℕ) (us : List (ℕ × Tree O ℕ l)) → length (beside pick (numb l) i (2 * l + 1) us) ≡ length us
+    numbers_length l i [] = refl
+    numbers_length l i (e ∷ r) = ap suc (numbers_length l (onward e.1.0 i (2 * l + 1)) r)
 
     one_place : (l b : ℕ) (us : List (ℕ × Tree O ℕ l)) → length us ≡ 1 → picked b (C (suc l) us) ≡ picked b (places ℕ (only O ℕ l None us))
     one_place l b [] n = absurd (omega arith)
@@ -198,7 +198,7 @@ module _ (pick : ℕ → ℕ) where
       below = put (suc t.0) ((0, F (suc t.0) t.1) ∷ [])
 
       same_length : length (put_n gs s a (suc t.0) ((0, t.1) ∷ [])) ≡ length below
-      same_length = ap (λ (z : List (ℕ × Tree ℕ ℕ t.0)). length z) (put_numbers (suc t.0) ((0, t.1) ∷ []) (λ j lt. h j (omega arith))) ∙ numbers-length t.0 (2 * t.0) below
+      same_length = ap (λ (z : List (ℕ × Tree ℕ ℕ t.0)). length z) (put_numbers (suc t.0) ((0, t.1) ∷ []) (λ j lt. h j (omega arith))) ∙ numbers_length t.0 (2 * t.0) below
 
       -- the blocks written: no root above, or one
       pub root_one : (b : ℕ) → length (put_n gs s a (suc t.0) ((0, t.1) ∷ [])) ≡ 1 → occ b (linked (moves gs s a (suc t.0) ((0, t.1) ∷ []))) ≡ picked b (places ℕ (put_root O ℕ None s a (over_root Some same t)))

@@ -8,17 +8,17 @@ use Rattle.tree.proofs.Over.{cond_map, map-append, map_take, map_drop, map_lengt
 use Rattle.tree.proofs.Segs.{seg_le, seg_weak}
 use Rattle.tree.proofs.Puts.{enough, span_cut}
 use Rattle.tree.proofs.Kept.{every_take, every_drop}
-use Rattle.tree.proofs.Finds.{ahead-yes, ahead_no, at_index}
+use Rattle.tree.proofs.Finds.{ahead_yes, ahead_no, at_index}
 use Rattle.tree.proofs.Removes.{cell_le}
 use Rattle.tree.proofs.Steps.{map_get, every_get}
 use Rattle.page.specs.Block.{Block, block_at, kids_of}
 use Rattle.counts.specs.Counts.{one, occ, Counted, opened}
 use Rattle.counts.proofs.Opens.{recount, open_counted, open_free, length_opened}
-use Rattle.edit.specs.Plan.{shallow, page, node_of, kids, Stored, chosen, unchosen, parted, placed, links, down, kid_n, put_n, kidMoves, moves}
+use Rattle.edit.specs.Plan.{shallow, page, node_of, kids, Stored, chosen, unchosen, parted, placed, links, down, kid_n, put_n, kid_moves, moves}
 use Rattle.counts.specs.Moves.{Move, opening, State, state_of, step, run, Laid}
 use Rattle.edit.specs.Able.{Loose, Ready, Made}
 use Rattle.counts.specs.Moves.{Owned}
-use Rattle.edit.proofs.States.{same_by, run_append, laid-append}
+use Rattle.edit.proofs.States.{same_by, run_append, laid_append}
 use Rattle.edit.proofs.Parting.{By}
 
 module _ {X Y : Type 0} (f : X → Y) (s : ℕ) where
@@ -27,8 +27,8 @@ module _ {X Y : Type 0} (f : X → Y) (s : ℕ) where
       rw (map_length f es, ← map_drop f 7 es, ← map_take f 7 es, map_first f (drop 7 es))
       (sym (cond_map (map_e f) (eqb (length es) 15) _ _ _ _ (cond_map (map_e f) (ltb s (first (drop 7 es))) _ _ _ _ refl refl) refl))
 
-  parted-map : (k : ℕ) (es made : List (ℕ × X)) → parted s k (map_e f es) (map_e f made) ≡ map_e (map_e f) (parted s k es made)
-  parted-map k es made =
+  parted_map : (k : ℕ) (es made : List (ℕ × X)) → parted s k (map_e f es) (map_e f made) ≡ map_e (map_e f) (parted s k es made)
+  parted_map k es made =
       rw (map_length f es, ← map_drop f 7 es, ← map_take f 7 es, map_first f (drop 7 es))
       (sym (cond_map (map_e (map_e f)) (eqb (length es) 15) _ _ _ _ (cond_map (map_e (map_e f)) (ltb s (first (drop 7 es))) _ _ _ _ refl refl) refl))
 
@@ -42,7 +42,7 @@ chosen_shallow s (suc l) es = chosen_map (λ (c : Tree ℕ ℕ l). c.0) s es
 
 parted_shallow : (s l k : ℕ) (es made : List (ℕ × Pay ℕ ℕ l)) → parted s k (shallow l es) (shallow l made) ≡ map_e (shallow l) (parted s k es made)
 parted_shallow s zero k es made = map_same (parted s k es made)
-parted_shallow s (suc l) k es made = parted-map (λ (c : Tree ℕ ℕ l). c.0) s k es made
+parted_shallow s (suc l) k es made = parted_map (λ (c : Tree ℕ ℕ l). c.0) s k es made
 
 module _ {X Y : Type 0} (F : X → Y) where
   placed_map : (x y : ℕ) (ps : List (ℕ × X)) → placed x y (map_e F ps) ≡ map_e (λ c. (c.0, F c.1)) (placed x y ps)
@@ -92,8 +92,8 @@ gap_le : (l a b : ℕ) → Gap l a b → a ≤ b
 gap_le zero a b p = p
 gap_le (suc l) a b p = omega (arith, p)
 
-loose-le : (l k m : ℕ) (t : Tree ℕ ℕ l) → Loose (suc l) k m t → k ≤ m
-loose-le l k m t p = seg_le (Gap l) (Cell ℕ ℕ l) (gap_le l) (cell_le ℕ ℕ l) k m t.1 p.0
+loose_le : (l k m : ℕ) (t : Tree ℕ ℕ l) → Loose (suc l) k m t → k ≤ m
+loose_le l k m t p = seg_le (Gap l) (Cell ℕ ℕ l) (gap_le l) (cell_le ℕ ℕ l) k m t.1 p.0
 
 seg_get : {X : Type 0} (W : ℕ → ℕ → X → Type 0) (s lo hi : ℕ) (es : List (ℕ × X)) (i : ℕ) (d : ℕ × X) → Seg ◌≡◌ W lo hi es → i < length es → s < hi → (suc i < length es → s < (get_or es (suc i) d).0) → (mid : ℕ) × W (get_or es i d).0 mid (get_or es i d).1 × (s < mid)
 seg_get W s lo hi [] i d p h a b = absurd (not-suc-le-zero h)
@@ -104,7 +104,7 @@ seg_get W s lo hi (e ∷ r) (suc i) d p h a b = seg_get W s p.1.0 hi r i d p.1.2
 down_index : {X : Type 0} (W : ℕ → ℕ → X → Type 0) (wle : (k m : ℕ) (x : X) → W k m x → k ≤ m) (s : ℕ) (f : ℕ → X → List Move) (lo hi : ℕ) (es : List (ℕ × X)) (i : ℕ) (d : ℕ × X) → Seg ◌≡◌ W lo hi es → i < length es → (get_or es i d).0 ≤ s → (suc i < length es → s < (get_or es (suc i) d).0)
     → down s f es ≡ f (get_or es i d).0 (get_or es i d).1
 down_index W wle s f lo hi [] i d p h k n = absurd (not-suc-le-zero h)
-down_index W wle s f lo hi (e ∷ r) zero d p h k n = rw (ahead-yes W wle s e r d n)
+down_index W wle s f lo hi (e ∷ r) zero d p h k n = rw (ahead_yes W wle s e r d n)
 down_index W wle s f lo hi (e ∷ r) (suc i) d p h k n =
     rw (ahead_no W wle s p.1.0 hi r i d p.1.2 (omega arith) k) (down_index W wle s f p.1.0 hi r i d p.1.2 (omega arith) k (λ j. n (omega arith)))
 
@@ -277,8 +277,8 @@ module _ (m : Meaning) (cs gs : List ℕ) (n : Block) (s l : ℕ) (es : List (�
       let ps = parted s k t.1 made in
       let K = kid_n gs s a l (put_n gs s a l) in
       let flat : parted s k (shallow l t.1) (shallow l made) ≡ map_e (shallow l) ps = parted_shallow s l k t.1 made in
-      let at-is : at s K es ≡ take i es ++ (K k t ++ drop (suc i) es) = at_index (Loose (suc l)) (loose-le l) s K p.lo p.hi es i d p.span at_e low_e high_e in
-      let mv : moves gs s a (suc l) es ≡ kidMoves gs s a l (moves gs s a l) k t = down_index (Loose (suc l)) (loose-le l) s (kidMoves gs s a l (moves gs s a l)) p.lo p.hi es i d p.span at_e low_e high_e in
+      let at-is : at s K es ≡ take i es ++ (K k t ++ drop (suc i) es) = at_index (Loose (suc l)) (loose_le l) s K p.lo p.hi es i d p.span at_e low_e high_e in
+      let mv : moves gs s a (suc l) es ≡ kid_moves gs s a l (moves gs s a l) k t = down_index (Loose (suc l)) (loose_le l) s (kid_moves gs s a l (moves gs s a l)) p.lo p.hi es i d p.span at_e low_e high_e in
       let lk : links l (placed x y (parted s k (shallow l t.1) (shallow l made))) ≡ links l (map_e (λ c. (c.0, shallow l c.1)) (placed x y ps)) = ap (λ z. links l (placed x y z)) flat ∙ ap (links l) (placed_map (shallow l) x y ps) in
       let keys : ks ≡ map_e F (placed x y ps) = by.kids ∙ ap (λ z. map_e (λ c. c.0) (placed x y z)) flat ∙ placed_keys (shallow l) x y ps in
       let tk : take i n.entries ≡ map_e F (take i es) = ap (λ (z : Block). take i z.entries) p.is ∙ sym (map_take F i es) in
@@ -289,5 +289,5 @@ module _ (m : Meaning) (cs gs : List ℕ) (n : Block) (s l : ℕ) (es : List (�
             ∙ ap (λ (u : List (ℕ × ℕ)). map_e F (take i es) ++ u) (sym (map-append F (K k t) (drop (suc i) es))) ∙ sym (map-append F (take i es) (K k t ++ drop (suc i) es)) ∙ ap (map_e F) (sym at-is));
         state = by.state ∙ ap (λ (v : List Move). run v q₂) lk ∙ ap (run (links l (map_e (λ c. (c.0, shallow l c.1)) (placed x y ps)))) (e₂ ∙ ap (run (moves gs s a l (chosen s t.1))) e₁)
             ∙ sym (run_append (moves gs s a l (chosen s t.1)) (links l (map_e (λ c. (c.0, shallow l c.1)) (placed x y ps))) (step (opening t.0) (state_of m cs))) ∙ ap (λ (v : List Move). run v (state_of m cs)) (sym mv);
-        laid = subst (Laid m.width) (sym mv) (tt, laid-append m.width (moves gs s a l (chosen s t.1)) _ laid (subst (Laid m.width) lk (subst (λ (v : ℕ). Laid v (links l (placed x y (parted s k (shallow l t.1) (shallow l made))))) w by.laid)));
+        laid = subst (Laid m.width) (sym mv) (tt, laid_append m.width (moves gs s a l (chosen s t.1)) _ laid (subst (Laid m.width) lk (subst (λ (v : ℕ). Laid v (links l (placed x y (parted s k (shallow l t.1) (shallow l made))))) w by.laid)));
       }

@@ -4,12 +4,12 @@ use Rattle.std.proofs.lemmas.List.{get_or-take}
 use Rattle.std.proofs.lemmas.Bool.{lt-ltb, le-ltb, cases_lt}
 use Rattle.device.specs.Meaning.{Meaning, blocks_of, current_at}
 use Rattle.device.proofs.Choices.{blocks_replay}
-use Rattle.tree.proofs.Laid.{same-rule}
+use Rattle.tree.proofs.Laid.{same_rule}
 use Rattle.page.specs.Slot.{Root}
 use Rattle.counts.specs.Counts.{spare, free_blocks}
 use Rattle.counts.specs.declared.grant.Grant.{Grant}
 use Rattle.model.specs.TreeBlocks.{Tree, Change, Change.begin, Change.puts, bare_tree, changed_on, top_level, tree_at, root_of, Stored, Each, Fit, Good}
-use Rattle.model.proofs.TreeLaws.{tree_stored, grow-fit, begin_fit}
+use Rattle.model.proofs.TreeLaws.{tree_stored, grow_fit, begin_fit}
 use Rattle.edit.specs.Kept.{Free}
 use Rattle.edit.specs.Edited.{Counting, Editable, Granted, Edited}
 use Rattle.edit.proofs.Trees.{Spare, Rooted, from_model}
@@ -77,7 +77,7 @@ rooted m cs grant root s E G sp =
       height = hi;
       at = refl;
       stored = from_model m t E.good.stored;
-      wf = (same-rule ℕ ℕ t.0 t.1).1 E.good.fit.laid;
+      wf = (same_rule ℕ ℕ t.0 t.1).1 E.good.fit.laid;
       counted = E.counted;
       modest = E.modest;
       few = E.counting.few;
@@ -115,8 +115,8 @@ pub good_put : (m : Meaning) (cs : List ℕ) (grant : Grant) (root : Root) (s a 
 good_put m cs grant root s a E G sp k m' cs' r e D =
     let t : Tree = tree_at (current_at m) root in
     let hi = (rooted m cs grant root s E G sp).height in
-    good_after (puts s a) t m cs m' cs' r e D (grow-fit (blocks_of m) (puts s a) (free_blocks cs) t (sp, k) (frees_inside m cs E.counting) (omega (arith, hi, G.enough)) E.good.fit)
+    good_after (puts s a) t m cs m' cs' r e D (grow_fit (blocks_of m) (puts s a) (free_blocks cs) t (sp, k) (frees_inside m cs E.counting) (omega (arith, hi, G.enough)) E.good.fit)
 
-pub good-create : (m : Meaning) (cs : List ℕ) (grant : Grant) → Counting m cs → Granted 1 m cs grant → (m' : Meaning) (cs' : List ℕ) (r : Root)
+pub good_create : (m : Meaning) (cs : List ℕ) (grant : Grant) → Counting m cs → Granted 1 m cs grant → (m' : Meaning) (cs' : List ℕ) (r : Root)
     → r ≡ root_of (changed_on ℕ begin (free_blocks cs) bare_tree) → Edited begin bare_tree m cs m' cs' → Good (blocks_of m') (current_at m') r
-good-create m cs grant C G m' cs' r e D = good_after begin bare_tree m cs m' cs' r e D (begin_fit (blocks_of m) (free_blocks cs) bare_tree (frees_inside m cs C) G.enough)
+good_create m cs grant C G m' cs' r e D = good_after begin bare_tree m cs m' cs' r e D (begin_fit (blocks_of m) (free_blocks cs) bare_tree (frees_inside m cs C) G.enough)

@@ -11,7 +11,7 @@ use Rattle.edit.specs.Plan.{shallow, kids, Stored, placed, links}
 use Rattle.counts.specs.Moves.{Move, opening, State, step, run, Laid}
 use Rattle.edit.specs.Kept.{Free, Outside, Kept, Stands}
 use Rattle.edit.specs.Fill.{opens, below}
-use Rattle.edit.proofs.States.{Same, run_same, run_append, laid-append}
+use Rattle.edit.proofs.States.{Same, run_same, run_append, laid_append}
 use Rattle.edit.proofs.Downs.{kids_append}
 use Rattle.edit.proofs.Keeps.{Good, frame, same_live, free_open, laid_parts}
 

@@ -12,7 +12,7 @@ use Rattle.counts.specs.Counts.{one, occ, Counted}
 use Rattle.counts.proofs.Parents.{one_same, one_other}
 use Rattle.counts.proofs.Steps.{link_in}
 use Rattle.counts.proofs.Opens.{recount, open_counted, open_free, length_opened, kids_alive}
-use Rattle.edit.specs.Plan.{shallow, node_of, kids, Stored, chosen, unchosen, parted, placed, links, down, kid_n, put_n, kidMoves, moves}
+use Rattle.edit.specs.Plan.{shallow, node_of, kids, Stored, chosen, unchosen, parted, placed, links, down, kid_n, put_n, kid_moves, moves}
 use Rattle.counts.specs.Moves.{Move, opening, linking, State, step, run, Laid}
 use Rattle.edit.specs.Kept.{cell_at, Free, Kept, Stands}
 use Rattle.edit.proofs.States.{run_same, run_append}
@@ -113,9 +113,9 @@ module _ (l : ℕ) (h : ℕ → ℕ) (x y : ℕ) (q : State) (fx : get_or q.1 x 
         counts = λ b n o. link_counts q x l us h fx wx ox z st c' b n;
       }
 
-  pub good-two : (k j : ℕ) (xs ys : List (ℕ × Pay ℕ ℕ l)) → Every (Stored (block_at q.0) l) xs → Every (Stored (block_at q.0) l) ys → Counted (block_at q.0) q.1 (λ b. occ b (kids l xs) + (occ b (kids l ys) + h b))
+  pub good_two : (k j : ℕ) (xs ys : List (ℕ × Pay ℕ ℕ l)) → Every (Stored (block_at q.0) l) xs → Every (Stored (block_at q.0) l) ys → Counted (block_at q.0) q.1 (λ b. occ b (kids l xs) + (occ b (kids l ys) + h b))
       → Layout q.0.width (node_of l xs) → Layout q.0.width (node_of l ys) → Good l h x y q (after ((k, xs) ∷ (j, ys) ∷ [])) ((k, (x, xs)) ∷ (j, (y, ys)) ∷ [])
-  good-two k j xs ys sx sy c zx zy =
+  good_two k j xs ys sx sy c zx zy =
       let h₁ : ℕ → ℕ = λ b. occ b (kids l ys) + h b in
       let q₁ : State = step (linking x (node_of l xs)) q in
       let c₁ = link_counted q x l xs h₁ fx wx ox zx sx c in
@@ -139,9 +139,9 @@ module _ (l : ℕ) (h : ℕ → ℕ) (x y : ℕ) (q : State) (fx : get_or q.1 x 
   good s k es made sm =
       ⊎_elim
       (λ n. ⊎_elim
-      (λ v. rw (eq-eqb (length es) 15 n, lt-ltb s (first (drop 7 es)) v) (λ su c z. good-two k (first (drop 7 es)) made (drop 7 es) sm su c z.0 z.1.0))
+      (λ v. rw (eq-eqb (length es) 15 n, lt-ltb s (first (drop 7 es)) v) (λ su c z. good_two k (first (drop 7 es)) made (drop 7 es) sm su c z.0 z.1.0))
       (λ v. rw (eq-eqb (length es) 15 n, le-ltb s (first (drop 7 es)) v)
-      (λ su c z. good-two k (first (drop 7 es)) (take 7 es) made su sm
+      (λ su c z. good_two k (first (drop 7 es)) (take 7 es) made su sm
       (recount (λ b. occ b (kids l made) + (occ b (kids l (take 7 es)) + h b)) (λ b. occ b (kids l (take 7 es)) + (occ b (kids l made) + h b)) (λ b. omega arith) c) z.0 z.1.0))
       (cases_lt s (first (drop 7 es))))
       (λ n. rw (ne_eqb (length es) 15 n) (λ su c z. good_one k made sm
@@ -197,7 +197,7 @@ module _ (gs : List ℕ) (s a N : ℕ) where
   kid_keeps : (l : ℕ) → ((es : List (ℕ × Pay ℕ ℕ l)) (q : State) (h : ℕ → ℕ) → Every (Stored (block_at q.0) l) es → Counted (block_at q.0) q.1 (λ b. occ b (kids l es) + h b) → Free q.0 q.1 gs N → 2 * l ≤ N
       → Laid q.0.width (moves gs s a l es) → Stands gs l h q (run (moves gs s a l es) q) (put_n gs s a l es))
       → (k : ℕ) (t : Tree ℕ ℕ l) (q : State) (h : ℕ → ℕ) → Stored (block_at q.0) (suc l) t → Counted (block_at q.0) q.1 (λ b. one t.0 b + h b) → Free q.0 q.1 gs N → 2 * suc l ≤ N
-      → Laid q.0.width (kidMoves gs s a l (moves gs s a l) k t) → Stands gs (suc l) h q (run (kidMoves gs s a l (moves gs s a l) k t) q) (kid_n gs s a l (put_n gs s a l) k t)
+      → Laid q.0.width (kid_moves gs s a l (moves gs s a l) k t) → Stands gs (suc l) h q (run (kid_moves gs s a l (moves gs s a l) k t) q) (kid_n gs s a l (put_n gs s a l) k t)
   kid_keeps l ih k t q h st c f le laid =
       let m = q.0 in
       let es = t.1 in
@@ -248,18 +248,18 @@ module _ (gs : List ℕ) (s a N : ℕ) where
       go : ((es : List (ℕ × Pay ℕ ℕ l)) (q : State) (h : ℕ → ℕ) → Every (Stored (block_at q.0) l) es → Counted (block_at q.0) q.1 (λ b. occ b (kids l es) + h b) → Free q.0 q.1 gs N → 2 * l ≤ N
           → Laid q.0.width (moves gs s a l es) → Stands gs l h q (run (moves gs s a l es) q) (put_n gs s a l es))
           → (es : List (ℕ × Tree ℕ ℕ l)) (h : ℕ → ℕ) → Every (Stored (block_at q.0) (suc l)) es → Counted (block_at q.0) q.1 (λ b. occ b (kids (suc l) es) + h b)
-          → Laid q.0.width (down s (kidMoves gs s a l (moves gs s a l)) es) → Stands gs (suc l) h q (run (down s (kidMoves gs s a l (moves gs s a l)) es) q) (at s (kid_n gs s a l (put_n gs s a l)) es)
+          → Laid q.0.width (down s (kid_moves gs s a l (moves gs s a l)) es) → Stands gs (suc l) h q (run (down s (kid_moves gs s a l (moves gs s a l)) es) q) (at s (kid_n gs s a l (put_n gs s a l)) es)
       go ih [] h st c laid = record { stored = tt; counted = c; kept = kept_refl gs (2 * suc l) q }
       go ih (e ∷ r) h st c laid = by (ahead s r) (λ c' z. go ih r (λ b. one e.1.0 b + h b) st.1 c' z) laid
         where
-          by : (b : Bool) → (Counted (block_at q.0) q.1 (λ b. occ b (kids (suc l) r) + (one e.1.0 b + h b)) → Laid q.0.width (down s (kidMoves gs s a l (moves gs s a l)) r)
-              → Stands gs (suc l) (λ b. one e.1.0 b + h b) q (run (down s (kidMoves gs s a l (moves gs s a l)) r) q) (at s (kid_n gs s a l (put_n gs s a l)) r))
-              → Laid q.0.width (cond b (kidMoves gs s a l (moves gs s a l) e.0 e.1) (down s (kidMoves gs s a l (moves gs s a l)) r))
-              → Stands gs (suc l) h q (run (cond b (kidMoves gs s a l (moves gs s a l) e.0 e.1) (down s (kidMoves gs s a l (moves gs s a l)) r)) q) (cond b (kid_n gs s a l (put_n gs s a l) e.0 e.1 ++ r) (e ∷ at s (kid_n gs s a l (put_n gs s a l)) r))
+          by : (b : Bool) → (Counted (block_at q.0) q.1 (λ b. occ b (kids (suc l) r) + (one e.1.0 b + h b)) → Laid q.0.width (down s (kid_moves gs s a l (moves gs s a l)) r)
+              → Stands gs (suc l) (λ b. one e.1.0 b + h b) q (run (down s (kid_moves gs s a l (moves gs s a l)) r) q) (at s (kid_n gs s a l (put_n gs s a l)) r))
+              → Laid q.0.width (cond b (kid_moves gs s a l (moves gs s a l) e.0 e.1) (down s (kid_moves gs s a l (moves gs s a l)) r))
+              → Stands gs (suc l) h q (run (cond b (kid_moves gs s a l (moves gs s a l) e.0 e.1) (down s (kid_moves gs s a l (moves gs s a l)) r)) q) (cond b (kid_n gs s a l (put_n gs s a l) e.0 e.1 ++ r) (e ∷ at s (kid_n gs s a l (put_n gs s a l)) r))
           by true more laid =
               let h₁ : ℕ → ℕ = λ b. occ b (kids (suc l) r) + h b in
               let us = kid_n gs s a l (put_n gs s a l) e.0 e.1 in
-              let q' = run (kidMoves gs s a l (moves gs s a l) e.0 e.1) q in
+              let q' = run (kid_moves gs s a l (moves gs s a l) e.0 e.1) q in
               let S = kid_keeps l ih e.0 e.1 q h₁ st.0 (recount (λ b. occ b (kids (suc l) (e ∷ r)) + h b) (λ b. one e.1.0 b + h₁ b) (λ b. omega arith) c) f le laid in
               record {
                 stored = every_append (Stored (block_at q'.0) (suc l)) us r S.stored
@@ -270,7 +270,7 @@ module _ (gs : List ℕ) (s a N : ℕ) where
           by false more laid =
               let h₁ : ℕ → ℕ = λ b. one e.1.0 b + h b in
               let us = at s (kid_n gs s a l (put_n gs s a l)) r in
-              let q' = run (down s (kidMoves gs s a l (moves gs s a l)) r) q in
+              let q' = run (down s (kid_moves gs s a l (moves gs s a l)) r) q in
               let S = more (recount (λ b. occ b (kids (suc l) (e ∷ r)) + h b) (λ b. occ b (kids (suc l) r) + h₁ b) (λ b. omega arith) c) laid in
               record {
                 stored = ((frame q.0 (block_at q'.0) q.1 (λ b. occ b (kids (suc l) (e ∷ r)) + h b) c (same_live gs (2 * suc l) N q q' f le S.kept) (suc l) (e ∷ []) (λ b p. omega (arith, c.eqn b)) (st.0, tt)).0, S.stored);

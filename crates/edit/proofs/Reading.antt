@@ -23,6 +23,6 @@ first_is [] = refl
 first_is (e ∷ r) = refl
 
 -- the first speed of a page
-pub first-speed : (p : Page) (e : Entry) (es : List (ℕ × ℕ)) → entries p ≡ es → 0 < length es → (get_or p.items 0 e).speed ≡ first es
-first-speed p e es q h =
+pub first_speed_lem : (p : Page) (e : Entry) (es : List (ℕ × ℕ)) → entries p ≡ es → 0 < length es → (get_or p.items 0 e).speed ≡ first es
+first_speed_lem p e es q h =
     sym (ap (λ (x : ℕ × ℕ). x.0) (entries_at p 0 e (omega (arith, entries_length p, ap length q)))) ∙ ap (λ (x : List (ℕ × ℕ)). (get_or x 0 (0, 0)).0) q ∙ first_is es

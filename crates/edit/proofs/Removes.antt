@@ -11,9 +11,9 @@ use Rattle.edit.specs.Plan.{shallow, kids, Stored, placed, links}
 use Rattle.counts.specs.Moves.{Move, State, run, Laid}
 use Rattle.edit.specs.Kept.{Free, Kept, Stands}
 use Rattle.edit.specs.Fill.{opens, below}
-use Rattle.edit.specs.Remove.{short, work_r, rest_r, parts_r, work_l, rest_l, parts_l, beside_m, put2, alone_n, right_n, left_n, edit_moves, alone_m, right_m, left_m, shrink_n, shrink_m, rem_n, remMoves, RemoveKeeps}
+use Rattle.edit.specs.Remove.{short, work_r, rest_r, parts_r, work_l, rest_l, parts_l, beside_m, put2, alone_n, right_n, left_n, edit_moves, alone_m, right_m, left_m, shrink_n, shrink_m, rem_n, rem_moves, RemoveKeeps}
 use Rattle.edit.proofs.Downs.{kids_append}
-use Rattle.edit.proofs.Keeps.{Good, good_one, good-two, kept_refl, frame, same_live}
+use Rattle.edit.proofs.Keeps.{Good, good_one, good_two, kept_refl, frame, same_live}
 use Rattle.edit.proofs.Fills.{replaced, among}
 
 kids_nil : (b l : ℕ) → occ b (kids l []) ≡ 0
@@ -45,7 +45,7 @@ module _ (gs : List ℕ) (s N l : ℕ) (g : List (ℕ × Pay ℕ ℕ l) → List
   part_rest mid work rest k j h st c sw sr split laid =
       replaced gs N l mid work rest (g work) ((k, g work) ∷ (j, rest) ∷ []) (ms work) h q le st c f sw sr split
       (λ q₁ h₁ a b e z. ih work q₁ h₁ a b e z)
-      (λ q₂ fx wx ox fy wy oy ne su sr c₂ z. good-two l h (get_or gs (2 * l) 0) (get_or gs (2 * l + 1) 0) q₂ fx wx ox fy wy oy ne k j (g work) rest su sr c₂ z.0 z.1.0)
+      (λ q₂ fx wx ox fy wy oy ne su sr c₂ z. good_two l h (get_or gs (2 * l) 0) (get_or gs (2 * l + 1) 0) q₂ fx wx ox fy wy oy ne k j (g work) rest su sr c₂ z.0 z.1.0)
       laid
 
   rest_part : (mid : List (ℕ × Tree ℕ ℕ l)) (work rest : List (ℕ × Pay ℕ ℕ l)) (k j : ℕ) (h : ℕ → ℕ) → S1 mid → Counted (block_at q.0) q.1 (λ b. occ b (kids (suc l) mid) + h b) → Every (Stored (block_at q.0) l) work → Every (Stored (block_at q.0) l) rest → ((b : ℕ) → below l mid b ≡ occ b (kids l work) + occ b (kids l rest))
@@ -53,7 +53,7 @@ module _ (gs : List ℕ) (s N l : ℕ) (g : List (ℕ × Pay ℕ ℕ l) → List
   rest_part mid work rest k j h st c sw sr split laid =
       replaced gs N l mid work rest (g work) ((k, rest) ∷ (j, g work) ∷ []) (ms work) h q le st c f sw sr split
       (λ q₁ h₁ a b e z. ih work q₁ h₁ a b e z)
-      (λ q₂ fx wx ox fy wy oy ne su sr c₂ z. good-two l h (get_or gs (2 * l) 0) (get_or gs (2 * l + 1) 0) q₂ fx wx ox fy wy oy ne k j rest (g work) sr su
+      (λ q₂ fx wx ox fy wy oy ne su sr c₂ z. good_two l h (get_or gs (2 * l) 0) (get_or gs (2 * l + 1) 0) q₂ fx wx ox fy wy oy ne k j rest (g work) sr su
       (recount (λ b. occ b (kids l (g work)) + (occ b (kids l rest) + h b)) (λ b. occ b (kids l rest) + (occ b (kids l (g work)) + h b)) (λ b. omega arith) c₂) z.0 z.1.0)
       laid
 
@@ -136,4 +136,4 @@ remove_keeps gs s N zero es q h st c f le laid = record { stored = every_unit (d
     every_unit (e ∷ r) = (tt, every_unit r)
 remove_keeps gs s N (suc l) [] q h st c f le laid = record { stored = tt; counted = c; kept = kept_refl gs (2 * suc l) q }
 remove_keeps gs s N (suc l) (e ∷ r) q h st c f le laid =
-    shrinks gs s N l (rem_n gs s l) (remMoves gs s l) (λ es q h a b c d. remove_keeps gs s N l es q h a b c (omega arith) d) q f le e r h st c laid
+    shrinks gs s N l (rem_n gs s l) (rem_moves gs s l) (λ es q h a b c d. remove_keeps gs s N l es q h a b c (omega arith) d) q f le e r h st c laid

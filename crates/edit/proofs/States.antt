@@ -39,9 +39,9 @@ pub run_append : (us vs : List Move) (q : State) → run (us ++ vs) q ≡ run vs
 run_append [] vs q = refl
 run_append (u ∷ us) vs q = run_append us vs (step u q)
 
-pub laid-append : (w : ℕ) (us vs : List Move) → Laid w us → Laid w vs → Laid w (us ++ vs)
-laid-append w [] vs p q = q
-laid-append w (u ∷ us) vs p q = (p.0, laid-append w us vs p.1 q)
+pub laid_append : (w : ℕ) (us vs : List Move) → Laid w us → Laid w vs → Laid w (us ++ vs)
+laid_append w [] vs p q = q
+laid_append w (u ∷ us) vs p q = (p.0, laid_append w us vs p.1 q)
 
 pub writes_append : (us vs : List Move) → writes (us ++ vs) ≡ writes us + writes vs
 writes_append [] vs = omega arith

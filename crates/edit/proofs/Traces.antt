@@ -8,7 +8,7 @@ use Rattle.page.specs.Block.{encode}
 use Rattle.counts.specs.Moves.{Move, opening, linking, State, step, run}
 use Rattle.model.specs.TreeBlocks.{Each}
 use Rattle.model.specs.World.{targets}
-use Rattle.edit.specs.Plan.{shallow, chosen, parted, placed, links, down, kid_n, put_n, kidMoves, moves}
+use Rattle.edit.specs.Plan.{shallow, chosen, parted, placed, links, down, kid_n, put_n, kid_moves, moves}
 use Rattle.edit.specs.Edited.{WritesFree}
 
 -- the blocks that moves write
@@ -17,10 +17,10 @@ linked [] = []
 linked (opening x ∷ vs) = linked vs
 linked (linking x n ∷ vs) = x ∷ linked vs
 
-pub linked-append : (us vs : List Move) → linked (us ++ vs) ≡ linked us ++ linked vs
-linked-append [] vs = refl
-linked-append (opening x ∷ us) vs = linked-append us vs
-linked-append (linking x n ∷ us) vs = ap (λ (z : List ℕ). x ∷ z) (linked-append us vs)
+pub linked_append : (us vs : List Move) → linked (us ++ vs) ≡ linked us ++ linked vs
+linked_append [] vs = refl
+linked_append (opening x ∷ us) vs = linked_append us vs
+linked_append (linking x n ∷ us) vs = ap (λ (z : List ℕ). x ∷ z) (linked_append us vs)
 
 -- the device calls of moves, at width w
 abbrev pub ops : ℕ → List Move → List Op
@@ -33,10 +33,10 @@ run_replay [] q = refl
 run_replay (opening x ∷ vs) q = run_replay vs (step (opening x) q)
 run_replay (linking x n ∷ vs) q = run_replay vs (step (linking x n) q)
 
-pub ops-targets : (w : ℕ) (vs : List Move) → targets (ops w vs) ≡ linked vs
-ops-targets w [] = refl
-ops-targets w (opening x ∷ vs) = ops-targets w vs
-ops-targets w (linking x n ∷ vs) = ap (λ (z : List ℕ). x ∷ z) (ops-targets w vs)
+pub ops_targets : (w : ℕ) (vs : List Move) → targets (ops w vs) ≡ linked vs
+ops_targets w [] = refl
+ops_targets w (opening x ∷ vs) = ops_targets w vs
+ops_targets w (linking x n ∷ vs) = ap (λ (z : List ℕ). x ∷ z) (ops_targets w vs)
 
 pub ops_free : (m : Meaning) (cs : List ℕ) (w : ℕ) (vs : List Move) → Each (λ b. (2 ≤ b) × (b < blocks_of m) × (get_or cs b 0 ≡ 0)) (linked vs) → Each (WritesFree m cs) (ops w vs)
 ops_free m cs w [] p = tt
@@ -51,7 +51,7 @@ module _ {Y : Type 0} (N : Y → Type 0) where
 -- what holds of the first 2l places of the grant holds of each block that put's moves below level l write
 module _ (gs : List ℕ) (N : ℕ → Type 0) where
   pub each_linked : (us vs : List Move) → Each N (linked us) → Each N (linked vs) → Each N (linked (us ++ vs))
-  each_linked us vs p q = subst (Each N) (sym (linked-append us vs)) (each_append N (linked us) (linked vs) p q)
+  each_linked us vs p q = subst (Each N) (sym (linked_append us vs)) (each_append N (linked us) (linked vs) p q)
 
   down_each : {X : Type 0} (s : ℕ) (f : ℕ → X → List Move) → ((k : ℕ) (x : X) → Each N (linked (f k x))) → (es : List (ℕ × X)) → Each N (linked (down s f es))
   down_each s f h [] = tt
@@ -72,7 +72,7 @@ module _ (gs : List ℕ) (N : ℕ → Type 0) where
   pub moves_each : (s a l : ℕ) (es : List (ℕ × Pay ℕ ℕ l)) → ((j : ℕ) → j < 2 * l → N (get_or gs j 0)) → Each N (linked (moves gs s a l es))
   moves_each s a zero es h = tt
   moves_each s a (suc l) es h =
-      down_each s (kidMoves gs s a l (moves gs s a l))
+      down_each s (kid_moves gs s a l (moves gs s a l))
       (λ k t.
       each_linked (moves gs s a l (chosen s t.1)) (links l (map_e (λ c. (c.0, shallow l c.1)) (kid_n gs s a l (put_n gs s a l) k t)))
       (moves_each s a l (chosen s t.1) (λ j lt. h j (omega arith)))

@@ -4,7 +4,7 @@ use Rattle.std.proofs.lemmas.Bool.{cond_both}
 use Rattle.device.specs.Meaning.{Meaning, blocks_of, current_at}
 use Rattle.tree.specs.Node.{first, Every, map_e}
 use Rattle.tree.specs.Tree.{Tree, Wf, only}
-use Rattle.tree.proofs.Puts.{five-high}
+use Rattle.tree.proofs.Puts.{five_high}
 use Rattle.tree.proofs.Stores.{all_both}
 use Rattle.page.specs.Block.{Block, block_at, block_in, Layout}
 use Rattle.page.specs.Slot.{Root}
@@ -13,7 +13,7 @@ use Rattle.counts.specs.Moves.{Move, linking, State, state_of, step, run, Wide}
 use Rattle.counts.proofs.Opens.{recount}
 use Rattle.model.specs.TreeBlocks as model
 use Rattle.model.specs.TreeBlocks.{Change.puts, changed_on, new_blocks, block_of, root_of, Each}
-use Rattle.model.proofs.TreeLaws.{grow-wf}
+use Rattle.model.proofs.TreeLaws.{grow_wf}
 use Rattle.edit.specs.Plan.{page, node_of, kids, Stored, chosen, parted, placed, put_n, moves, put_root_n}
 use Rattle.edit.specs.Able.{Ready, Made}
 use Rattle.edit.specs.Kept.{Free, Stands}
@@ -21,7 +21,7 @@ use Rattle.edit.specs.Edited.{Edited}
 use Rattle.edit.proofs.States.{same_by, run_same, run_append}
 use Rattle.edit.proofs.Anyhow.{moves_writes}
 use Rattle.edit.proofs.Keeps.{keeps, link_counted, link_stored}
-use Rattle.edit.proofs.Traces.{linked, linked-append, ops, run_replay, ops-targets, ops_free, moves_each, each_linked}
+use Rattle.edit.proofs.Traces.{linked, linked_append, ops, run_replay, ops_targets, ops_free, moves_each, each_linked}
 use Rattle.edit.proofs.Changing.{root_numbers, root_one, root_more}
 
 -- what a block holds, in the words of the plan and of the model
@@ -33,9 +33,9 @@ block_is zero t = ap (page zero) (go t.1)
     go (e ∷ r) = ap (λ (z : List (ℕ × ℕ)). e ∷ z) (go r)
 block_is (suc l) t = refl
 
-pub to-model : (m : Meaning) (t : model.Tree) → Stored (block_at m) (suc t.0) t.1 → model.Stored (current_at m) t
+pub to_model : (m : Meaning) (t : model.Tree) → Stored (block_at m) (suc t.0) t.1 → model.Stored (current_at m) t
 unfolding block_at
-to-model m t a =
+to_model m t a =
     all_both ℕ ℕ (λ i u. block_at m u.0 ≡ Some (node_of i u.1)) (λ i u. block_at m u.0 ≡ Some (node_of i u.1)) (λ i u. block_in (current_at m u.0) ≡ Some (block_of i u))
     (λ i u p q. p ∙ ap Some (block_is i u)) (suc t.0) t.1 a a
 
@@ -101,7 +101,7 @@ module _ (m : Meaning) (cs gs : List ℕ) (root : Root) (s : ℕ) (r : model.Tre
   above = recount (λ b. one t.0 b + h b) (λ b. occ b (kids (suc l) es) + h b) (λ b. omega arith) p.counted
 
   pub low : l ≤ 4
-  low = five-high ℕ ℕ l t p.wf
+  low = five_high ℕ ℕ l t p.wf
 
   pub top_ready : (n : Block) → n.level ≡ root.0 → n.entries ≡ (0, root.1) ∷ [] → Ready m cs gs n s (suc l) es
   top_ready n v e = record {
@@ -153,8 +153,8 @@ module _ (m : Meaning) (cs gs : List ℕ) (root : Root) (s : ℕ) (r : model.Tre
           os = ops m.width vs;
           trace = run_replay vs q₀;
           free = ops_free m cs m.width vs free;
-          once = λ b. ap (occ b) (ops-targets m.width vs) ∙ once b;
-          stored = subst (model.Stored (current_at z.0)) e (to-model z.0 v st);
+          once = λ b. ap (occ b) (ops_targets m.width vs) ∙ once b;
+          stored = subst (model.Stored (current_at z.0)) e (to_model z.0 v st);
           counted = λ h' c. recount (λ b. one u.1.0 b + h b) (λ b. one u.1.0 b + h' b) (λ b. omega (arith, c.eqn b, p.counted.eqn b)) cu;
           sized = (run_same vs q₀).counts;
         })
@@ -225,8 +225,8 @@ module _ (m : Meaning) (cs gs : List ℕ) (root : Root) (s : ℕ) (r : model.Tre
             let z = same_by ms q₀ q M.state in
             let o = p.free.on (2 * suc l) (omega arith) in
             let lv : made.level ≡ suc l = ap (λ (x : Block). x.level) M.is in
-            let w = subst (λ (v : model.Tree). Wf ℕ ℕ v.0 v.1) (sym u_more) (grow-wf (puts s a) (free_blocks cs) r (p.speed, k) p.wf) in
-            let five = five-high ℕ ℕ (suc l) (x, us) w in (
+            let w = subst (λ (v : model.Tree). Wf ℕ ℕ v.0 v.1) (sym u_more) (grow_wf (puts s a) (free_blocks cs) r (p.speed, k) p.wf) in
+            let five = five_high ℕ ℕ (suc l) (x, us) w in (
               (omega (arith, z.width, p.wide.0), omega (arith, z.width, p.wide.1)),
               omega (arith, z.blocks, o.0),
               omega (arith, z.counts, o.1),
@@ -253,7 +253,7 @@ module _ (m : Meaning) (cs gs : List ℕ) (root : Root) (s : ℕ) (r : model.Tre
             let to : q' ≡ q₂ = e' ∙ ap (λ (y : ℕ). step (linking y made) q) e ∙ ap (λ (n : Block). step (linking x n) q) M.is ∙ ap (step (linking x (node_of (suc l) us))) M.state in
             edited_by (suc l, (x, us)) (ms ++ top) u_more
             (each_linked gs (Spare m cs) ms top (moves_each gs (Spare m cs) s a (suc l) es (λ j lt. spare j (omega arith))) (spare (2 * suc l) (omega arith), tt))
-            (λ c. ap (occ c) (linked-append ms top) ∙ root_more (λ i. get_or (free_blocks cs) i 0) gs s a r p.lowest c (omega (arith, len)))
+            (λ c. ap (occ c) (linked_append ms top) ∙ root_more (λ i. get_or (free_blocks cs) i 0) gs s a r p.lowest c (omega (arith, len)))
             (subst (λ (y : State). Stored (block_at y.0) (suc (suc l)) (x, us)) (sym end) (link_stored q₁ x (suc l) us h still_free wx ox ly S.stored S.counted))
             (subst (λ (y : State). Counted (block_at y.0) y.1 (λ b. one x b + h b)) (sym end) (link_counted q₁ x (suc l) us h still_free wx ox ly S.stored S.counted))
             q' (to ∙ sym end)

@@ -60,12 +60,12 @@ module _ (gs : List ℕ) (s a : ℕ) where
   put_n zero es = ins s a es
   put_n (suc l) es = at s (kid_n l (put_n l)) es
 
-  abbrev pub kidMoves : (l : ℕ) → (List (ℕ × Pay ℕ ℕ l) → List Move) → ℕ → Tree ℕ ℕ l → List Move
-  kidMoves l ms k t = opening t.0 ∷ (ms (chosen s t.1) ++ links l (map_e (λ c. (c.0, shallow l c.1)) (kid_n l (put_n l) k t)))
+  abbrev pub kid_moves : (l : ℕ) → (List (ℕ × Pay ℕ ℕ l) → List Move) → ℕ → Tree ℕ ℕ l → List Move
+  kid_moves l ms k t = opening t.0 ∷ (ms (chosen s t.1) ++ links l (map_e (λ c. (c.0, shallow l c.1)) (kid_n l (put_n l) k t)))
 
   abbrev pub moves : (l : ℕ) → List (ℕ × Pay ℕ ℕ l) → List Move
   moves zero es = []
-  moves (suc l) es = down s (kidMoves l (moves l)) es
+  moves (suc l) es = down s (kid_moves l (moves l)) es
 
   -- the whole tree, as the one child of a block above it
   abbrev pub put_root_n : Root ℕ ℕ → Root ℕ ℕ

@@ -77,14 +77,14 @@ module _ (gs : List ℕ) (s : ℕ) where
   rem_n zero es = del s es
   rem_n (suc l) es = shrink_n l (rem_n l) es
 
-  abbrev pub remMoves : (l : ℕ) → List (ℕ × Pay ℕ ℕ l) → List Move
-  remMoves zero es = []
-  remMoves (suc l) es = shrink_m l (rem_n l) (remMoves l) es
+  abbrev pub rem_moves : (l : ℕ) → List (ℕ × Pay ℕ ℕ l) → List Move
+  rem_moves zero es = []
+  rem_moves (suc l) es = shrink_m l (rem_n l) (rem_moves l) es
 
 -- Remove's moves keep the counts' equation, what they make is stored, and blocks outside the places stay as they are.
 abbrev pub RemoveKeeps : Type 0
 RemoveKeeps = (gs : List ℕ) (s N l : ℕ) (es : List (ℕ × Pay ℕ ℕ l)) (q : State) (h : ℕ → ℕ) → Every (Stored (block_at q.0) l) es → Counted (block_at q.0) q.1 (λ b. occ b (kids l es) + h b) → Free q.0 q.1 gs N → 2 * l ≤ N
-    → Laid q.0.width (remMoves gs s l es) → Stands gs l h q (run (remMoves gs s l es) q) (rem_n gs s l es)
+    → Laid q.0.width (rem_moves gs s l es) → Stands gs l h q (run (rem_moves gs s l es) q) (rem_n gs s l es)
 
 -- Remove on numbers is remove, with the numbers of the grant forgotten.
 abbrev pub Removes : Type 0

@@ -6,7 +6,7 @@ use Rattle.device.specs.Meaning.{Cell, Content, words, LawfulCell, Cut, CutCell,
 use Rattle.device.proofs.Tables.{get_or_table, same_table}
 use Rattle.log_device.specs.Log.{last_of, count_of, log_cell, record_at, records, flushed_in, capacity, log_of, opened_log, Sound, Formed, Shaped, Leaves, Outlasts, kind_of, payload_of, place_of, IsRecord}
 use Rattle.log_device.specs.Fit.{rows, cell_fit}
-use Rattle.log_device.proofs.Facts.{kind-word, payload_word, same_record, fits_in}
+use Rattle.log_device.proofs.Facts.{kind_word, payload_word, same_record, fits_in}
 
 -- a cut may leave either content of a block
 either : (w m : ℕ) (c : Cell) (x : Content) → c.mark ≡ m → LawfulCell w c → (x ≡ c.persisted) ⊎ (x ≡ c.current) → CutTo w c x
@@ -22,7 +22,7 @@ module _ (img left : List ℕ) (n w k : ℕ) (s : Sound img n w k) (l : Leaves w
   heads = ⊎_elim (λ e. inl (ap payload_of e)) (λ e. inr (ap payload_of e ∙ payload_word 8 k (omega (arith, s.small)))) l.head
 
   head_kind : kind_of (get_or left 0 0) ≡ 8
-  head_kind = ⊎_elim (λ e. ap kind_of e ∙ s.head) (λ e. ap kind_of e ∙ kind-word 8 k (omega (arith, s.small))) l.head
+  head_kind = ⊎_elim (λ e. ap kind_of e ∙ s.head) (λ e. ap kind_of e ∙ kind_word 8 k (omega (arith, s.small))) l.head
 
   few : flushed_in left ≤ k
   few = ⊎_elim (λ e. omega (arith, s.flushed)) (λ e. omega arith) heads
@@ -36,20 +36,20 @@ module _ (img left : List ℕ) (n w k : ℕ) (s : Sound img n w k) (l : Leaves w
       ∙ get_or-take (flushed_in left * (w + 1)) (drop 1 img) (i * (w + 1)) 0 low
       ∙ get_or-drop 1 img (i * (w + 1)) 0
 
-  part-kept : (xs ys : List ℕ) (m a : ℕ) → take m xs ≡ take m ys → a + w ≤ m → take w (drop a xs) ≡ take w (drop a ys)
-  part-kept xs ys m a e h =
+  part_kept : (xs ys : List ℕ) (m a : ℕ) → take m xs ≡ take m ys → a + w ≤ m → take w (drop a xs) ≡ take w (drop a ys)
+  part_kept xs ys m a e h =
       sym (drop-take a w xs) ∙ ap (drop a) (sym (take-take (a + w) m xs h) ∙ ap (take (a + w)) e ∙ take-take (a + w) m ys h) ∙ drop-take a w ys
 
-  record-kept : (i : ℕ) → i < flushed_in left → record_at w left i ≡ record_at w img i
-  record-kept i h =
+  record_kept : (i : ℕ) → i < flushed_in left → record_at w left i ≡ record_at w img i
+  record_kept i h =
       same_record w img left i (word_kept i h)
       (ap (λ j. take w (drop j left)) (omega arith) ∙ ap (take w) (sym (drop-drop (i * (w + 1) + 1) 1 left))
-      ∙ part-kept (drop 1 left) (drop 1 img) (flushed_in left * (w + 1)) (i * (w + 1) + 1) l.kept (omega (arith, rows i (flushed_in left) (w + 1) h))
+      ∙ part_kept (drop 1 left) (drop 1 img) (flushed_in left * (w + 1)) (i * (w + 1) + 1) l.kept (omega (arith, rows i (flushed_in left) (w + 1) h))
       ∙ ap (take w) (drop-drop (i * (w + 1) + 1) 1 img) ∙ ap (λ j. take w (drop j img)) (omega arith))
 
   -- the records that are kept are the first ones
   kept : records w left (flushed_in left) ≡ take (flushed_in left) (records w img k)
-  kept = same_table (record_at w img) (record_at w left) (flushed_in left) record-kept ∙ sym (take-map-range_with_len (record_at w img) 0 k (flushed_in left) few)
+  kept = same_table (record_at w img) (record_at w left) (flushed_in left) record_kept ∙ sym (take-map-range_with_len (record_at w img) 0 k (flushed_in left) few)
 
   shown : (b : ℕ) → (words (last_of (records w left (flushed_in left)) b (replicate w 0)) ≡ (log_cell w (records w img k) (flushed_in img) b).persisted)
       ⊎ (words (last_of (records w left (flushed_in left)) b (replicate w 0)) ≡ (log_cell w (records w img k) (flushed_in img) b).current)

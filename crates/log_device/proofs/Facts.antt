@@ -86,8 +86,8 @@ room_for k w len one h =
     omega (arith, rows k ((len - 1) / (w + 1)) (w + 1) (omega arith), div-add-mod' (len - 1) (w + 1))
 
 -- words of a kind and a payload
-pub kind-word : (t p : ℕ) → p < 2 ^ 28 → kind_of (word_of t p) ≡ t
-kind-word t p h = omega arith
+pub kind_word : (t p : ℕ) → p < 2 ^ 28 → kind_of (word_of t p) ≡ t
+kind_word t p h = omega arith
 
 pub payload_word : (t p : ℕ) → p < 2 ^ 28 → payload_of (word_of t p) ≡ p
 payload_word t p h = omega arith
@@ -135,7 +135,7 @@ module _ (img : List ℕ) (n w k : ℕ) (s : Sound img n w k) where
     narrow = s.narrow;
     room = omega (arith, s.room, length-set img 0 (word_of 8 k));
     small = s.small;
-    head = ap kind_of head_is ∙ kind-word 8 k (omega (arith, s.small));
+    head = ap kind_of head_is ∙ kind_word 8 k (omega (arith, s.small));
     flushed = omega (arith, ap payload_of head_is ∙ payload_word 8 k (omega (arith, s.small)));
     kinds = λ i h. subst (IsRecord n) (sym (head_word i)) (s.kinds i h);
     fits = All-set _ img 0 (word_of 8 k) (omega (arith, s.small)) s.fits;
@@ -161,14 +161,14 @@ module _ (img : List ℕ) (n w k : ℕ) (s : Sound img n w k) (b : ℕ) (ws : Li
       get_or_append_left (take at img) (((word_of 9 b) ∷ ws) ++ drop c (drop at img)) 0 j (omega (arith, length-take-le at img (omega (arith, ends))))
       ∙ get_or-take at img j 0 j<
 
-  put-part : (j : ℕ) → j + w ≤ at → take w (drop j put) ≡ take w (drop j img)
-  put-part j j< =
+  put_part : (j : ℕ) → j + w ≤ at → take w (drop j put) ≡ take w (drop j img)
+  put_part j j< =
       sym (drop-take j w put) ∙ ap (drop j) (take-put_mid_below at c img ((word_of 9 b) ∷ ws) (j + w) j< (omega (arith, ends))) ∙ drop-take j w img
 
-  pub put-old : (i : ℕ) → i < k → record_at w put i ≡ record_at w img i
-  put-old i i< =
+  pub put_old : (i : ℕ) → i < k → record_at w put i ≡ record_at w img i
+  put_old i i< =
       let r = rows i k (w + 1) i< in
-      same_record w img put i (put_low (place_of w i) (omega arith)) (put-part (place_of w i + 1) (omega arith))
+      same_record w img put i (put_low (place_of w i) (omega arith)) (put_part (place_of w i + 1) (omega arith))
 
   put_new : take (w + 1) (drop at put) ≡ (word_of 9 b) ∷ ws
   put_new =
@@ -192,7 +192,7 @@ module _ (img : List ℕ) (n w k : ℕ) (s : Sound img n w k) (b : ℕ) (ws : Li
   put_records : records w put (k + 1) ≡ records w img k ++ ((b, ws) ∷ [])
   put_records =
       map-range_with_len_more (record_at w put) 0 k k (omega arith)
-      ∙ ap (λ rs. rs ++ (record_at w put k ∷ [])) (same_table (record_at w img) (record_at w put) k put-old)
+      ∙ ap (λ rs. rs ++ (record_at w put k ∷ [])) (same_table (record_at w img) (record_at w put) k put_old)
       ∙ ap (λ r. records w img k ++ (r ∷ [])) put_record
 
   pub write_after : log_of put n w (k + 1) ≡ written (log_of img n w k) b ws
@@ -216,7 +216,7 @@ module _ (img : List ℕ) (n w k : ℕ) (s : Sound img n w k) (b : ℕ) (ws : Li
     flushed = omega (arith, ap payload_of (put_low 0 (omega arith)), s.flushed);
     kinds = λ i i<. ⊎_elim
         (λ (e : i ≡ k). subst (λ j. IsRecord n (get_or put (place_of w j) 0)) (sym e)
-        (subst (IsRecord n) (sym put_word) (kind-word 9 b (omega (arith, s.few)), omega (arith, payload_word 9 b (omega (arith, s.few))))))
+        (subst (IsRecord n) (sym put_word) (kind_word 9 b (omega (arith, s.few)), omega (arith, payload_word 9 b (omega (arith, s.few))))))
         (λ (ne : i ≡ k → ⊥).
         let i<k : i < k = omega arith in
         subst (IsRecord n) (sym (put_low (place_of w i) (omega (arith, rows i k (w + 1) i<k)))) (s.kinds i i<k))
@@ -228,8 +228,8 @@ pub room_of : (k w len : ℕ) → 1 ≤ len → k ≤ capacity len w → place_o
 room_of k w len one h =
     omega (arith, mul-le k (w + 1) ((len - 1) / (w + 1)) (w + 1) (omega arith) (omega arith), div-add-mod' (len - 1) (w + 1))
 
-pub opened-sound : (img : List ℕ) (n w k : ℕ) → k ≡ flushed_in img → Shaped (length img) n w → Formed img n w → All (λ x. x < 2 ^ 32) img → Sound img n w k
-opened-sound img n w k e s f fits =
+pub opened_sound : (img : List ℕ) (n w k : ℕ) → k ≡ flushed_in img → Shaped (length img) n w → Formed img n w → All (λ x. x < 2 ^ 32) img → Sound img n w k
+opened_sound img n w k e s f fits =
     let h : k ≤ capacity (length img) w = omega (arith, e, f.within) in
     record {
       some = s.some;

@@ -122,8 +122,8 @@ module _ (cur per marks : List ℕ) (w : ℕ) (s : Sound cur per marks w) where
         per_fit = s.cur_fit;
       }
 
-pub opened-sound : (per : List ℕ) (n w : ℕ) → Shaped (length per) (length per) n w → All (λ x. x < 2 ^ 32) per → Sound per per (replicate n 0) w
-opened-sound per n w s fits =
+pub opened_sound : (per : List ℕ) (n w : ℕ) → Shaped (length per) (length per) n w → All (λ x. x < 2 ^ 32) per → Sound per per (replicate n 0) w
+opened_sound per n w s fits =
     let e : length (replicate {A = ℕ} n 0) ≡ n = length-replicate n 0 in
     record {
       cur_len = s.cur_len ∙ ap (λ j. j * w) (sym e);
@@ -165,5 +165,5 @@ module _ (cur per marks left : List ℕ) (w : ℕ) (s : Sound cur per marks w) (
         left = omega arith;
       }
 
-pub opened-cut : (left : List ℕ) (n w : ℕ) → Outlasts left n w (cleared left n w)
-opened-cut left n w cur per marks e s l = subst (λ k. Cut (memory cur per marks w) (cleared left k w)) e (cut_cleared cur per marks left w s l)
+pub opened_cut : (left : List ℕ) (n w : ℕ) → Outlasts left n w (cleared left n w)
+opened_cut left n w cur per marks e s l = subst (λ k. Cut (memory cur per marks w) (cleared left k w)) e (cut_cleared cur per marks left w s l)

@@ -5,7 +5,7 @@ use Rattle.std.proofs.lemmas.List.{length-set, length-map}
 use Rattle.device.specs.Meaning.{Meaning, Cell, Content, words, damaged, Cut, CutCell, CutTo, Held, Lawful, LawfulCell, written, written_cell, flushed, flushed_cell, blocks_of}
 use Rattle.device.specs.Cuts.{cell_at}
 use Rattle.device.proofs.Cuts.{cut_flushed}
-use Rattle.device.proofs.Choices.{flush-at, write_at, write_off}
+use Rattle.device.proofs.Choices.{flush_at, write_at, write_off}
 use Rattle.mirror.specs.Mirrored.{Alike, One, mirrored, mirrored_cell, both_at, pick, mirrored_blocks, held_pick, first_lawful, second_lawful}
 use Rattle.mirror.specs.Cuts.{CutsKept}
 use Rattle.mirror.proofs.Follows.{cell_mirrored, moved}
@@ -76,8 +76,8 @@ module _ (w : ℕ) (c d : Cell) (same : c.mark ≡ d.mark) (one : 1 ≤ c.mark �
       s
 
   -- with the first side written
-  half-written : LawfulCell w d → (ws : List ℕ) → CutTo w (written_cell ws c) x → CutTo w d y → CutTo w (written_cell ws (mirrored_cell c d)) (pick x y)
-  half-written l ws s t =
+  half_written : LawfulCell w d → (ws : List ℕ) → CutTo w (written_cell ws c) x → CutTo w d y → CutTo w (written_cell ws (mirrored_cell c d)) (pick x y)
+  half_written l ws s t =
       ⊎_elim
       (λ (z : c.mark ≡ 0).
       let e : y ≡ d.persisted = clean w d y t (sym same ∙ z) ∙ sym (l.clean (sym same ∙ z)) in
@@ -143,7 +143,7 @@ module _ (m n p q : Meaning) (a : Alike m n) (l : Cut n q) where
       let e = length-map m.cells flushed_cell in
       by_blocks (mirrored m n) p q k.width (k.blocks ∙ e ∙ sym (mirrored_blocks m n)) k.left (λ b i.
       let h : b < blocks_of m = omega (arith, mirrored_blocks m n) in
-      let u : CutCell m.width (flushed_cell (cell_at m b)) (cell_at p b) = subst (λ x. CutCell m.width x (cell_at p b)) (flush-at m b) (k.cells b (omega (arith, e))) in
+      let u : CutCell m.width (flushed_cell (cell_at m b)) (cell_at p b) = subst (λ x. CutCell m.width x (cell_at p b)) (flush_at m b) (k.cells b (omega (arith, e))) in
       subst (λ x. CutCell m.width x (both_at p q b)) (sym (cell_mirrored m n b h))
       (both m.width (flushed_cell (cell_at m b)) (cell_at n b) (both_at m n b) (cell_at p b) (cell_at q b) u (second b h)
       (half_flushed m.width (cell_at m b) (cell_at n b) (a.marks b h) (a.currents b h) (cell_at p b).current (cell_at q b).current
@@ -159,7 +159,7 @@ module _ (m n p q : Meaning) (a : Alike m n) (l : Cut n q) where
       subst (λ x. CutCell m.width x (both_at p q b))
       (sym (write_at (mirrored m n) b ws (omega (arith, mirrored_blocks m n)) ∙ ap (written_cell ws) (cell_mirrored m n b h)))
       (both m.width (written_cell ws (cell_at m b)) (cell_at n b) (written_cell ws (both_at m n b)) (cell_at p b) (cell_at q b) u (second b h)
-      (half-written m.width (cell_at m b) (cell_at n b) (a.marks b h) (a.currents b h) (cell_at p b).current (cell_at q b).current
+      (half_written m.width (cell_at m b) (cell_at n b) (a.marks b h) (a.currents b h) (cell_at p b).current (cell_at q b).current
       (second_lawful m n lm ln a b h) ws u.from (second b h).from)) in
       by_blocks v p q k.width (k.blocks ∙ e ∙ sym f) k.left (λ i j.
       let i< : i < blocks_of m = omega (arith, f) in

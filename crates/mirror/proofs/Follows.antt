@@ -10,7 +10,7 @@ use Rattle.device.specs.declared.DeviceFault.{DeviceFault}
 use Rattle.device.specs.Meaning.{Meaning, Cell, Content, words, damaged, raised, flushed, flushed_cell, written, written_cell, no_cell, spent, blocks_of, reading, held, answered, filled, raised_fault, current_at}
 use Rattle.device.specs.Cuts.{cell_at}
 use Rattle.device.proofs.Calls.{reading_at, filled_ok, answered_err}
-use Rattle.device.proofs.Choices.{flush-at, write_at, write_off}
+use Rattle.device.proofs.Choices.{flush_at, write_at, write_off}
 use Rattle.device.proofs.Tables.{get_or_table, set_table, same_table, map_map}
 use Rattle.mirror.specs.Mirrored.{Allowed, Alike, One, mirrored, mirrored_cell, both_at, pick, either, mirrored_blocks}
 
@@ -61,10 +61,10 @@ module _ (m n : Meaning) where
       ∙ sym (map_map flushed_cell (both_at m n) (range_with_len 0 (blocks_of m))))
     where
       at : (b : ℕ) → both_at (flushed m) (flushed n) b ≡ flushed_cell (both_at m n b)
-      at b = ap (λ c. mirrored_cell c (cell_at (flushed n) b)) (flush-at m b) ∙ ap (mirrored_cell (flushed_cell (cell_at m b))) (flush-at n b)
+      at b = ap (λ c. mirrored_cell c (cell_at (flushed n) b)) (flush_at m b) ∙ ap (mirrored_cell (flushed_cell (cell_at m b))) (flush_at n b)
 
   unmarked : (p : Meaning) (b : ℕ) → (cell_at (flushed p) b).mark ≡ 0
-  unmarked p b = ap (λ (c : Cell). c.mark) (flush-at p b)
+  unmarked p b = ap (λ (c : Cell). c.mark) (flush_at p b)
 
   pub alike_flushed : Allowed m n → Alike (flushed m) (flushed n)
   alike_flushed s = record {

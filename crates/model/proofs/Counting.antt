@@ -52,9 +52,9 @@ targets_length (write b ws ∷ os) h = ap suc (targets_length os h.1)
 targets_length (flush ∷ os) h = absurd h.0
 
 -- one place for each new block
-taking-length : {Y : Type 0} (m : Option ℕ) (y : Y) (ys : List Y) → length (taking m y ys) ≡ is_new m + length ys
-taking-length None y ys = omega arith
-taking-length (Some b) y ys = omega arith
+taking_length : {Y : Type 0} (m : Option ℕ) (y : Y) (ys : List Y) → length (taking m y ys) ≡ is_new m + length ys
+taking_length None y ys = omega arith
+taking_length (Some b) y ys = omega arith
 
 module _ (P : Type 0) where
   ps_length : (l : ℕ) (es : List (ℕ × Pay (Option ℕ) P l)) → length (collect P ℕ (its_place P) l es) ≡ tally is_new (flat (λ k x. Marks (Option ℕ) P l x) es)
@@ -75,11 +75,11 @@ module _ (P : Type 0) where
           omega (
             arith,
             length-append A B,
-            taking-length e.1.0 i (collect P ℕ (its_place P) l e.1.1),
+            taking_length e.1.0 i (collect P ℕ (its_place P) l e.1.1),
             ih e.1.1,
             go ih j r,
             tally_append is_new (Marks (Option ℕ) P (suc l) e.1) (flat (λ k x. Marks (Option ℕ) P (suc l) x) r),
           )
 
-  pub places-length : (r : tree.Root (Option ℕ) P) → length (places P r) ≡ news P r
-  places-length r = taking-length r.1.0 (2 * r.0) (collect P ℕ (its_place P) r.0 r.1.1) ∙ ap (λ n. is_new r.1.0 + n) (ps_length r.0 r.1.1)
+  pub places_length : (r : tree.Root (Option ℕ) P) → length (places P r) ≡ news P r
+  places_length r = taking_length r.1.0 (2 * r.0) (collect P ℕ (its_place P) r.0 r.1.1) ∙ ap (λ n. is_new r.1.0 + n) (ps_length r.0 r.1.1)

@@ -5,11 +5,11 @@ use Rattle.std.proofs.lemmas.Bool.{cases_eq, cases_lt}
 use Rattle.std.proofs.lemmas.List.{get_or_past}
 use Rattle.device.specs.Meaning.{Content, Content.words, Cell, Meaning, blocks_of, current_at, flushed_cell, written_cell, written, flushed, no_cell, spent}
 use Rattle.device.specs.Cuts.{Op, Op.write, Op.flush, Choice, Choice.old, Choice.new, Choice.other, Cutting, apply, replay, cut, cut_cell, remains, cell_at}
-use Rattle.device.proofs.Choices.{cut_at, cut_blocks, flush-at, write_at, write_off, blocks_apply, blocks_replay, width_replay}
+use Rattle.device.proofs.Choices.{cut_at, cut_blocks, flush_at, write_at, write_off, blocks_apply, blocks_replay, width_replay}
 use Rattle.page.specs.Slot.{Root, Table, slot_words, slot_read, SlotFits, every, rooted}
 use Rattle.model.specs.Plain.{place}
 use Rattle.model.specs.TreeBlocks.{elem, AllGood, Tree, tree_at, reach, form, Good, Each}
-use Rattle.model.proofs.TreeLaws.{elem_left, elem_right, elem_cases, tree_same, good_one, fit-inside, reach_form}
+use Rattle.model.proofs.TreeLaws.{elem_left, elem_right, elem_cases, tree_same, good_one, fit_inside, reach_form}
 use Rattle.model.specs.Model.{Trees, forms, reaches, left_after}
 use Rattle.model.specs.World.{trees}
 
@@ -46,14 +46,14 @@ calm_apply (write b ws) m h x e = go (cases_eq x b) (cases_lt b (blocks_of m))
     go (inl y) (inr k) =
         let q : cell_at (written m b ws) x ≡ no_cell = get_or_past (written m b ws).cells x no_cell (omega (arith, blocks_apply (write b ws) m)) in
         ap (λ c. c.persisted) q ∙ ap (λ c. c.current) (sym q)
-calm_apply flush m h x e = let q = flush-at m x in ap (λ c. c.persisted) q ∙ ap (λ c. c.current) (sym q)
+calm_apply flush m h x e = let q = flush_at m x in ap (λ c. c.persisted) q ∙ ap (λ c. c.current) (sym q)
 
 pub calm_replay : (os : List Op) (m : Meaning) → Calm m → Calm (replay os m)
 calm_replay [] m h = h
 calm_replay (o ∷ os) m h = calm_replay os (apply o m) (calm_apply o m h)
 
-pub calm-cut : (κ : Cutting) (m : Meaning) → Calm (cut κ m)
-calm-cut κ m x e = let q = cut_at κ m x in ap (λ c. c.persisted) q ∙ ap (λ c. c.current) (sym q)
+pub calm_cut : (κ : Cutting) (m : Meaning) → Calm (cut κ m)
+calm_cut κ m x e = let q = cut_at κ m x in ap (λ c. c.persisted) q ∙ ap (λ c. c.current) (sym q)
 
 -- writes take from left
 abbrev pub IsWrite : Op → Type 0
@@ -70,13 +70,13 @@ layer_replay [] m = refl
 layer_replay (write b ws ∷ os) m = layer_replay os (apply (write b ws) m)
 layer_replay (flush ∷ os) m = layer_replay os (apply flush m)
 
-pub keeps-write : (R : List ℕ) (o : Op) (m : Meaning) → Off R o → Keeps R m (apply o m)
-keeps-write R (write b ws) m off x h = write_off m b x ws (λ e. off (subst (λ n. T (elem n R)) e h))
-keeps-write R flush m off x h = absurd off
+pub keeps_write : (R : List ℕ) (o : Op) (m : Meaning) → Off R o → Keeps R m (apply o m)
+keeps_write R (write b ws) m off x h = write_off m b x ws (λ e. off (subst (λ n. T (elem n R)) e h))
+keeps_write R flush m off x h = absurd off
 
 pub keeps_writes : (R : List ℕ) (os : List Op) (m : Meaning) → Each (Off R) os → Keeps R m (replay os m)
 keeps_writes R [] m off x h = refl
-keeps_writes R (o ∷ os) m off x h = keeps_writes R os (apply o m) off.1 x h ∙ keeps-write R o m off.0 x h
+keeps_writes R (o ∷ os) m off x h = keeps_writes R os (apply o m) off.1 x h ∙ keeps_write R o m off.0 x h
 
 pub cut_calm : (k : Choice) (c : Cell) → c.mark ≡ 0 → c.persisted ≡ c.current → cut_cell k c ≡ c
 cut_calm k c z p =
@@ -90,7 +90,7 @@ flush_calm : (c : Cell) → c.mark ≡ 0 → c.persisted ≡ c.current → flush
 flush_calm c z p = λ i. record { persisted = sym p i; current = c.current; mark = sym z i }
 
 pub keeps_flush : (R : List ℕ) (m : Meaning) → Calm m → Still R m → Keeps R m (apply flush m)
-keeps_flush R m calm still b h = flush-at m b ∙ flush_calm (cell_at m b) (still b h) (calm b (still b h))
+keeps_flush R m calm still b h = flush_at m b ∙ flush_calm (cell_at m b) (still b h) (calm b (still b h))
 
 pub still_keeps : (R : List ℕ) (m m' : Meaning) → Keeps R m m' → Still R m → Still R m'
 still_keeps R m m' k s b h = ap (λ c. c.mark) (k b h) ∙ s b h
@@ -160,7 +160,7 @@ good_inside n c [] g b h = absurd h
 good_inside n c (None ∷ t) g b h = good_inside n c t g b h
 good_inside n c (Some r ∷ t) g b h =
     elim (elem_cases b (reach (form (tree_at c r))) (Reaches c t) h) [
-      | inl k ↦ (fit-inside n (tree_at c r) g.0.fit b (subst (λ z. T (elem b z)) (reach_form (tree_at c r)) k)).0
+      | inl k ↦ (fit_inside n (tree_at c r) g.0.fit b (subst (λ z. T (elem b z)) (reach_form (tree_at c r)) k)).0
       | inr k ↦ good_inside n c t g.1 b k
     ]
 

@@ -8,8 +8,8 @@ use Rattle.page.proofs.Slots.{slot_back}
 use Rattle.tree.specs.Node.{ins, del, map_e}
 use Rattle.tree.specs.Tree.{rows, Wf}
 use Rattle.tree.proofs.Over.{map_ins, map_del}
-use Rattle.tree.proofs.Puts.{five-high}
-use Rattle.tree.proofs.Laid.{same-rule}
+use Rattle.tree.proofs.Puts.{five_high}
+use Rattle.tree.proofs.Laid.{same_rule}
 use Rattle.model.specs.declared.refusal.Refusal.{Refusal}
 use Rattle.model.specs.declared.refusal.Refusal.TheVariants.{Number, Speed, Angle, Absent, Taken, Short, Worn}
 use Rattle.model.specs.Plain.{Map, place, has, first, early, Ask}
@@ -18,7 +18,7 @@ use Rattle.model.specs.Plain.{Ask.create, Ask.put, Ask.remove}
 use Rattle.model.specs.TreeBlocks.{Tree, Form, form, bare_tree, raw, angle, rows_of, root_of, Change, Change.begin, Change.puts, Change.takes, changed_on, top_level, tree_at, Each, Fit, Good, AllGood, elem}
 use Rattle.model.specs.Model.{Trees, Model, Shapes, shape_of, unused, used, free, height, holds, needs, late, refusal, tree_of, source, new_tree, forms}
 use Rattle.model.specs.World.{Tables, trees, model_of, shape, sizes, slot_in}
-use Rattle.model.proofs.TreeLaws.{Allowed, done, needed, grow-wf, grow_rows, grow-fit, begin_fit, angle_raw, raw_range}
+use Rattle.model.proofs.TreeLaws.{Allowed, done, needed, grow_wf, grow_rows, grow_fit, begin_fit, angle_raw, raw_range}
 use Rattle.model.proofs.Frames.{Goods, good_at, OnPlace, trees_place, tree_at?}
 use Rattle.model.proofs.Places.{form_of?, forms_place}
 
@@ -26,16 +26,16 @@ abbrev pub IsNone : {A : Type 0} → Option A → Type 0
 IsNone None = Unit {0}
 IsNone (Some x) = ⊥
 
-pub some-none : {A : Type 0} (x : A) → Some x ≡ None → ⊥
-some-none x e = subst IsNone (sym e) tt
+pub some_none : {A : Type 0} (x : A) → Some x ≡ None → ⊥
+some_none x e = subst IsNone (sym e) tt
 
 pub either_none : {A : Type 0} (x y : Option A) → option_or x y ≡ None → (x ≡ None) × (y ≡ None)
-either_none (Some a) y e = absurd (some-none a e)
+either_none (Some a) y e = absurd (some_none a e)
 either_none None y e = (refl, e)
 
-first-none : (p : Bool) (r : Refusal) (ts : List (Bool × Refusal)) → first ((p, r) ∷ ts) ≡ None → (p ≡ false) × (first ts ≡ None)
-first-none true r ts e = absurd (some-none r e)
-first-none false r ts e = (refl, e)
+first_none : (p : Bool) (r : Refusal) (ts : List (Bool × Refusal)) → first ((p, r) ∷ ts) ≡ None → (p ≡ false) × (first ts ≡ None)
+first_none true r ts e = absurd (some_none r e)
+first_none false r ts e = (refl, e)
 
 not_false : (k : Bool) → not k ≡ false → k ≡ true
 not_false true e = refl
@@ -54,7 +54,7 @@ good_rooted : (n : ℕ) (c : ℕ → Content) (r : Root) → Good n c r → root
 unfolding tree_at
 good_rooted n c r g =
     let f = g.fit in
-    let low : top_level r.0 ≤ 4 = five-high ℕ ℕ (tree_at c r).0 (tree_at c r).1 ((same-rule ℕ ℕ (tree_at c r).0 (tree_at c r).1).1 f.laid) in
+    let low : top_level r.0 ≤ 4 = five_high ℕ ℕ (tree_at c r).0 (tree_at c r).1 ((same_rule ℕ ℕ (tree_at c r).0 (tree_at c r).1).1 f.laid) in
     let h5 : r.0 ≤ 5 = height_low r.0 low in
     and_from (leb 1 r.0 && leb r.0 5) (leb 2 r.1 && ltb r.1 n)
     (and_from (leb 1 r.0) (leb r.0 5) (le-leb 1 r.0 g.height) (le-leb r.0 5 h5))
@@ -64,15 +64,15 @@ good_rooted n c r g =
     height_low zero q = omega arith
     height_low (suc l) q = omega arith
 
-goods-rooted : (n : ℕ) (c : ℕ → Content) (t : Table) → Goods n c t → every (rooted n) t ≡ true
-goods-rooted n c [] g = refl
-goods-rooted n c (None ∷ t) g = goods-rooted n c t g
-goods-rooted n c (Some r ∷ t) g = and_from (rooted n (Some r)) (every (rooted n) t) (good_rooted n c r g.0) (goods-rooted n c t g.1)
+goods_rooted : (n : ℕ) (c : ℕ → Content) (t : Table) → Goods n c t → every (rooted n) t ≡ true
+goods_rooted n c [] g = refl
+goods_rooted n c (None ∷ t) g = goods_rooted n c t g
+goods_rooted n c (Some r ∷ t) g = and_from (rooted n (Some r)) (every (rooted n) t) (good_rooted n c r g.0) (goods_rooted n c t g.1)
 
 pub slot_law : (n w g : ℕ) (c : ℕ → Content) (t : Table) → sizes n w ≡ true → length t ≡ 24 → Goods n c t → g ≤ 268435455 → slot_in n (g % 2) (words (slot_words w g t)) ≡ Some (g, t)
 slot_law n w g c t z l G h =
     let p = sizes_parts n w z in
-    slot_back n w g t (record { blocks = p.1; wide = p.2; generation = h; places = l; roots = goods-rooted n c t G })
+    slot_back n w g t (record { blocks = p.1; wide = p.2; generation = h; places = l; roots = goods_rooted n c t G })
 
 -- free blocks are tree blocks
 pub unused_each : (k b : ℕ) (us : List ℕ) → Each (λ x. (b ≤ x) × (x < b + k)) (unused k b us)
@@ -85,8 +85,8 @@ unused_each (suc k) b us =
     wider [] e = tt
     wider (x ∷ xs) e = let p = e.0.0 in let q = e.0.1 in ((omega arith, omega arith), wider xs e.1)
 
-pub free-each : (S : Shapes) → 16 ≤ S.blocks → Each (λ x. (2 ≤ x) × (x < S.blocks)) (free S)
-free-each S h = go (free S) (unused_each (S.blocks - 2) 2 (used S))
+pub free_each : (S : Shapes) → 16 ≤ S.blocks → Each (λ x. (2 ≤ x) × (x < S.blocks)) (free S)
+free_each S h = go (free S) (unused_each (S.blocks - 2) 2 (used S))
   where
     go : (xs : List ℕ) → Each (λ x. (2 ≤ x) × (x < 2 + (S.blocks - 2))) xs → Each (λ x. (2 ≤ x) × (x < S.blocks)) xs
     go [] e = tt
@@ -100,7 +100,7 @@ module _ (t : Tables) (m : Meaning) (z : sizes (blocks_of m) m.width ≡ true) (
   M = model_of t m
 
   pub blocks_free : Each (λ x. (2 ≤ x) × (x < blocks_of m)) (free S)
-  blocks_free = free-each S (sizes_parts (blocks_of m) m.width z).0
+  blocks_free = free_each S (sizes_parts (blocks_of m) m.width z).0
 
   -- the clone's root
   pub record Rooted (n : ℕ) : Type 0 where
@@ -130,15 +130,15 @@ module _ (t : Tables) (m : Meaning) (z : sizes (blocks_of m) m.width ≡ true) (
       }
 
   pub enough : (n k : ℕ) → needs S n k ≡ None → k ≤ length (free S)
-  enough n k e = ltb-false (length (free S)) k (first-none (ltb (length (free S)) k) Short ((ltb S.left k, Worn (Some n) S.layer) ∷ []) e).0
+  enough n k e = ltb-false (length (free S)) k (first_none (ltb (length (free S)) k) Short ((ltb S.left k, Worn (Some n) S.layer) ∷ []) e).0
 
   tall : (h : ℕ) → 1 ≤ h → suc (top_level h) ≡ h
   tall zero h = absurd (omega arith)
   tall (suc l) h = refl
 
-  level-at : (r : Root) → Good (blocks_of m) (current_at m) r → suc (tree_at (current_at m) r).0 ≡ r.0
+  level_at : (r : Root) → Good (blocks_of m) (current_at m) r → suc (tree_at (current_at m) r).0 ≡ r.0
   unfolding tree_at
-  level-at r g = tall r.0 g.height
+  level_at r g = tall r.0 g.height
 
   -- what a put or a remove starts from
   pub record Start (n : ℕ) (d : Change ℕ) : Type 0 where
@@ -150,14 +150,14 @@ module _ (t : Tables) (m : Meaning) (z : sizes (blocks_of m) m.width ≡ true) (
   pub put_start : (n s : ℕ) (a : ℤ) → refusal S (put n s a) ≡ None → Start n (puts s (raw a)) × (off_angle a ≡ false)
   put_start n s a e =
       let p = either_none (early (has S.working) (put n s a)) (late S (put n s a)) e in
-      let p1 = first-none (ltb 23 n) Number ((ltb 9999 s, Speed) ∷ (off_angle a, Angle) ∷ (not (has S.working n), Absent) ∷ []) p.0 in
-      let p2 = first-none (ltb 9999 s) Speed ((off_angle a, Angle) ∷ (not (has S.working n), Absent) ∷ []) p1.1 in
-      let p3 = first-none (off_angle a) Angle ((not (has S.working n), Absent) ∷ []) p2.1 in
-      let p4 = first-none (not (has S.working n)) Absent [] p3.1 in
+      let p1 = first_none (ltb 23 n) Number ((ltb 9999 s, Speed) ∷ (off_angle a, Angle) ∷ (not (has S.working n), Absent) ∷ []) p.0 in
+      let p2 = first_none (ltb 9999 s) Speed ((off_angle a, Angle) ∷ (not (has S.working n), Absent) ∷ []) p1.1 in
+      let p3 = first_none (off_angle a) Angle ((not (has S.working n), Absent) ∷ []) p2.1 in
+      let p4 = first_none (not (has S.working n)) Absent [] p3.1 in
       let R = rooted_at n (not_false (has S.working n) p4.0) in
       let sp : s ≤ 9999 = ltb-false 9999 s p2.0 in
       let en : 2 * height S n + 1 ≤ length (free S) = enough n (2 * height S n + 1) p.1 in
-      let lv = level-at R.root R.good in
+      let lv = level_at R.root R.good in
       let hi = R.high in
       let tr : (tree_of M n).0 ≡ (tree_at (current_at m) R.root).0 = ap (λ (x : Tree). x.0) R.tree in
       (record { rooted = R; sound = subst (Fit (blocks_of m)) (sym R.tree) R.good.fit; allowed = (omega arith, raw_range a p3.0); room = omega arith }, p3.0)
@@ -165,29 +165,29 @@ module _ (t : Tables) (m : Meaning) (z : sizes (blocks_of m) m.width ≡ true) (
   pub remove_start : (n s : ℕ) → refusal S (remove n s) ≡ None → holds S n s ≡ true → Start n (takes s)
   remove_start n s e h =
       let p = either_none (early (has S.working) (remove n s)) (late S (remove n s)) e in
-      let p1 = first-none (ltb 23 n) Number ((ltb 9999 s, Speed) ∷ (not (has S.working n), Absent) ∷ []) p.0 in
-      let p2 = first-none (ltb 9999 s) Speed ((not (has S.working n), Absent) ∷ []) p1.1 in
-      let p4 = first-none (not (has S.working n)) Absent [] p2.1 in
+      let p1 = first_none (ltb 23 n) Number ((ltb 9999 s, Speed) ∷ (not (has S.working n), Absent) ∷ []) p.0 in
+      let p2 = first_none (ltb 9999 s) Speed ((not (has S.working n), Absent) ∷ []) p1.1 in
+      let p4 = first_none (not (has S.working n)) Absent [] p2.1 in
       let R = rooted_at n (not_false (has S.working n) p4.0) in
       let sp : s ≤ 9999 = ltb-false 9999 s p2.0 in
       let en : 2 * height S n + 1 ≤ length (free S) = enough n (2 * height S n + 1) (subst (λ k. cond k (needs S n (2 * height S n + 1)) None ≡ None) h p.1) in
-      let lv = level-at R.root R.good in
+      let lv = level_at R.root R.good in
       let hi = R.high in
       let tr : (tree_of M n).0 ≡ (tree_at (current_at m) R.root).0 = ap (λ (x : Tree). x.0) R.tree in
       record { rooted = R; sound = subst (Fit (blocks_of m)) (sym R.tree) R.good.fit; allowed = omega arith; room = omega arith }
 
   -- the new tree is sound, and has the rows that the plain tables say
-  pub create-fit : (n : ℕ) → refusal S (create n) ≡ None → Fit (blocks_of m) (new_tree M n begin)
-  create-fit n e = begin_fit (blocks_of m) (free S) bare_tree blocks_free (enough n 1 (either_none (early (has S.working) (create n)) (late S (create n)) e).1)
+  pub create_fit : (n : ℕ) → refusal S (create n) ≡ None → Fit (blocks_of m) (new_tree M n begin)
+  create_fit n e = begin_fit (blocks_of m) (free S) bare_tree blocks_free (enough n 1 (either_none (early (has S.working) (create n)) (late S (create n)) e).1)
 
   pub put_fit : (n s : ℕ) (a : ℤ) → refusal S (put n s a) ≡ None → Fit (blocks_of m) (new_tree M n (puts s (raw a)))
-  put_fit n s a e = let B = (put_start n s a e).0 in grow-fit (blocks_of m) (puts s (raw a)) (free S) (tree_of M n) B.allowed blocks_free B.room B.sound
+  put_fit n s a e = let B = (put_start n s a e).0 in grow_fit (blocks_of m) (puts s (raw a)) (free S) (tree_of M n) B.allowed blocks_free B.room B.sound
 
   pub remove_fit : (n s : ℕ) → refusal S (remove n s) ≡ None → holds S n s ≡ true → Fit (blocks_of m) (new_tree M n (takes s))
-  remove_fit n s e h = let B = remove_start n s e h in grow-fit (blocks_of m) (takes s) (free S) (tree_of M n) B.allowed blocks_free B.room B.sound
+  remove_fit n s e h = let B = remove_start n s e h in grow_fit (blocks_of m) (takes s) (free S) (tree_of M n) B.allowed blocks_free B.room B.sound
 
   wf : (t : Tree) → Fit (blocks_of m) t → Wf ℕ ℕ t.0 t.1
-  wf t F = (same-rule ℕ ℕ t.0 t.1).1 F.laid
+  wf t F = (same_rule ℕ ℕ t.0 t.1).1 F.laid
 
   pub put_rows : (n s : ℕ) (a : ℤ) → refusal S (put n s a) ≡ None → rows_of (new_tree M n (puts s (raw a))) ≡ ins s a (rows_of (tree_of M n))
   put_rows n s a e =
@@ -196,15 +196,15 @@ module _ (t : Tables) (m : Meaning) (z : sizes (blocks_of m) m.width ≡ true) (
       ap (map_e angle) (grow_rows (puts s (raw a)) (free S) (tree_of M n) B.0.allowed (wf (tree_of M n) B.0.sound))
       ∙ map_ins angle s (raw a) rs ∙ ap (λ x. ins s x (map_e angle rs)) (angle_raw a B.1)
 
-  pub remove-rows : (n s : ℕ) → refusal S (remove n s) ≡ None → holds S n s ≡ true → rows_of (new_tree M n (takes s)) ≡ del s (rows_of (tree_of M n))
-  remove-rows n s e h =
+  pub remove_rows : (n s : ℕ) → refusal S (remove n s) ≡ None → holds S n s ≡ true → rows_of (new_tree M n (takes s)) ≡ del s (rows_of (tree_of M n))
+  remove_rows n s e h =
       let B = remove_start n s e h in
       ap (map_e angle) (grow_rows (takes s) (free S) (tree_of M n) B.allowed (wf (tree_of M n) B.sound))
       ∙ map_del angle s (rows ℕ ℕ (tree_of M n).0 (tree_of M n).1)
 
-pub create-rows : (M : Model) (n : ℕ) → rows_of (new_tree M n begin) ≡ []
+pub create_rows : (M : Model) (n : ℕ) → rows_of (new_tree M n begin) ≡ []
 unfolding changed_on
-create-rows M n = refl
+create_rows M n = refl
 
 -- a clone is in the shape exactly when it is in the table
 pub has_shape : (t : Tables) (m : Meaning) (n : ℕ) → has (shape t m).working n ≡ has t.working n

@@ -5,7 +5,7 @@ use lib.Dec.{eqb_refl}
 use Rattle.std.specs.Option.{option_or}
 use Rattle.device.specs.Meaning.{Content, Content.words, Cell, Meaning, blocks_of, current_at, flushed_cell, written_cell, written, flushed, no_cell, spent}
 use Rattle.device.specs.Cuts.{Op, Op.write, Op.flush, Choice, Choice.old, Choice.new, Choice.other, Cutting, apply, replay, cut, cut_cell, remains, cell_at}
-use Rattle.device.proofs.Choices.{cut_at, cut_blocks, flush-at, write_at, write_off, blocks_apply, blocks_replay, width_replay}
+use Rattle.device.proofs.Choices.{cut_at, cut_blocks, flush_at, write_at, write_off, blocks_apply, blocks_replay, width_replay}
 use Rattle.page.specs.Slot.{Root, Table, slot_words, slot_read, SlotFits, every, rooted}
 use Rattle.model.specs.declared.refusal.Refusal.{Refusal}
 use Rattle.model.specs.declared.refusal.Refusal.TheVariants.{Worn, Last, Shape}
@@ -15,14 +15,14 @@ use Rattle.model.specs.TreeBlocks.{Tree, Change, Change.begin, Change.puts, Chan
 use Rattle.model.specs.Walk.{walk, Fault}
 use Rattle.model.proofs.TreeLaws.{elem_left, elem_right, elem_cases, tree_stored, writes_form}
 use Rattle.model.proofs.Walks.{walk_none}
-use Rattle.model.proofs.Counting.{same_length, targets_length, places-length}
+use Rattle.model.proofs.Counting.{same_length, targets_length, places_length}
 use Rattle.std.proofs.lemmas.List.{length-map}
 use Rattle.tree.specs.Apart.{places}
-use Rattle.model.proofs.Grants.{slot_law, sizes_parts, create-fit, put_fit, remove_fit}
+use Rattle.model.proofs.Grants.{slot_law, sizes_parts, create_fit, put_fit, remove_fit}
 use Rattle.std.proofs.lemmas.Bool.{cases_eq}
 use Rattle.model.specs.Model.{Trees, Model, Shapes, shape_of, maps_of, refusal, late, free, used, holds, tree_of, source, new_tree, writes_for, standing, forms, reaches, left_after, next, reply, after, with_change, broken, landed, finished, cut_model, working≔}
 use Rattle.model.specs.World.{Tables, Mode, Mode.mounted, Mode.sealed, Mode.down, placed, finished_tables, Event, Event.did, Event.broke, Event.lost, trees, model_of, shape, latest, walked, faulty, found, sizes, slot_in, fresh, Formatted, FreeWrite, Changed, targets, Effect, Quiet, Mounts, Does, Step, Run, Traced, bare, Refines}
-use Rattle.model.proofs.Frames.{Calm, calm-cut, Still, Keeps, Off, IsWrite, left_replay, layer_replay, calm_apply, calm_replay, keeps_writes, cut_calm, keeps_cut, keeps_flush, still_keeps, Same, each_take, each_map, OnPlace, good_at, good_set, Goods, Reaches, trees_same, good_same, good_inside, trees_place, trees_put, tree_at?}
+use Rattle.model.proofs.Frames.{Calm, calm_cut, Still, Keeps, Off, IsWrite, left_replay, layer_replay, calm_apply, calm_replay, keeps_writes, cut_calm, keeps_cut, keeps_flush, still_keeps, Same, each_take, each_map, OnPlace, good_at, good_set, Goods, Reaches, trees_same, good_same, good_inside, trees_place, trees_put, tree_at?}
 
 -- 0 and 1, and no more, stand below 2
 small_in : (n : ℕ) (R : List ℕ) → n < 2 → T (elem n (0 ∷ 1 ∷ R))
@@ -155,7 +155,7 @@ unfolding Fine
 cut_fine M κ m g t calm K em eg eb =
     let R : List ℕ = Reaches (current_at m) t in
     let ks : Keeps (0 ∷ 1 ∷ R) m (cut κ m) = keeps_cut (0 ∷ 1 ∷ R) κ m calm K.still in
-    (calm-cut κ m, (g, t, kept_keeps m (cut κ m) g t (cut_blocks κ m) refl ks K, trees_same (current_at m) (current_at (cut κ m)) t (keeps_in m (cut κ m) t ks) ∙ em, eg, cut_blocks κ m ∙ eb, refl, refl))
+    (calm_cut κ m, (g, t, kept_keeps m (cut κ m) g t (cut_blocks κ m) refl ks K, trees_same (current_at m) (current_at (cut κ m)) t (keeps_in m (cut κ m) t ks) ∙ em, eg, cut_blocks κ m ∙ eb, refl, refl))
 
 -- writes to free blocks
 free_off : (t : Tables) (m : Meaning) (o : Op) → FreeWrite t m o → Off (0 ∷ 1 ∷ used (shape t m)) o
@@ -172,8 +172,8 @@ wider_committed t m b h =
       | inr k ↦ elem_right b (0 ∷ 1 ∷ []) (W ++ C) (elem_right b W C k)
     ]
 
-pub in-working : (t : Tables) (m : Meaning) (b : ℕ) → T (elem b (Reaches (current_at m) t.working)) → T (elem b (0 ∷ 1 ∷ used (shape t m)))
-in-working t m b h =
+pub in_working : (t : Tables) (m : Meaning) (b : ℕ) → T (elem b (Reaches (current_at m) t.working)) → T (elem b (0 ∷ 1 ∷ used (shape t m)))
+in_working t m b h =
     let W : List ℕ = Reaches (current_at m) t.working in
     let C : List ℕ = Reaches (current_at m) t.committed in
     elem_right b (0 ∷ 1 ∷ []) (W ++ C) (elem_left b W C h)
@@ -201,7 +201,7 @@ sown_fine t m n d os w' B F G =
     let m₁ : Meaning = replay os m in
     let k : ℕ = writes_for (model_of t m) n d in
     let K = free_kept t m os B G.0 in
-    let same : Same (Reaches (current_at m) t.working) (current_at m) (current_at m₁) = λ b h. ap (λ c. c.current) (keeps_free t m os G.0 b (in-working t m b h)) in
+    let same : Same (Reaches (current_at m) t.working) (current_at m) (current_at m₁) = λ b h. ap (λ c. c.current) (keeps_free t m os G.0 b (in_working t m b h)) in
     let eb : blocks_of m₁ ≡ blocks_of m = blocks_replay os m in
     let gs : Goods (blocks_of m) (current_at m₁) t.working = good_same (blocks_of m) (current_at m) (current_at m₁) t.working same B.goods in
     let et : tree_at (current_at m₁) r ≡ u = tree_stored (current_at m₁) u G.3 in
@@ -212,7 +212,7 @@ sown_fine t m n d os w' B F G =
     let ps : List ℕ = places ℕ (changed ℕ d (source (model_of t m) n d)) in
     let en : length os ≡ k
     = sym (targets_length os ws) ∙ same_length (targets os) (new_blocks d (free (shape t m)) (source (model_of t m) n d)) G.1
-    ∙ length-map ps (λ i. get_or (free (shape t m)) i 0) ∙ places-length ℕ (changed ℕ d (source (model_of t m) n d)) ∙ writes_form d (source (model_of t m) n d) in
+    ∙ length-map ps (λ i. get_or (free (shape t m)) i 0) ∙ places_length ℕ (changed ℕ d (source (model_of t m) n d)) ∙ writes_form d (source (model_of t m) n d) in
     let el : m₁.left ≡ left_after k m.left = left_replay os m ws ∙ ap (λ y. left_after y m.left) en in
     let base : Base (placed t (set t.working n (Some r))) m₁ = record {
       calm = calm_replay os m B.calm;
@@ -222,8 +222,8 @@ sown_fine t m n d os w' B F G =
     } in
     subst (λ w. Fine (with_change (model_of t m) n d) w m₁) (sym G.2) (base, λ i. record { working = ms i; committed = K.1 i; generation = t.generation; blocks = eb i; left = el i; layer = layer_replay os m i })
 
-grown-fine : (t : Tables) (m : Meaning) (n : ℕ) (d : Change ℕ) (os : List Op) (w' : Mode) (m' : Meaning) → Base t m → m' ≡ replay os m → Fit (blocks_of m) (new_tree (model_of t m) n d) → Changed t m n d os w' m' → Fine (with_change (model_of t m) n d) w' m'
-grown-fine t m n d os w' m' B em F G = subst (λ x. Changed t m n d os w' x → Fine (with_change (model_of t m) n d) w' x) (sym em) (at_end t m n d os w' B F) G
+grown_fine : (t : Tables) (m : Meaning) (n : ℕ) (d : Change ℕ) (os : List Op) (w' : Mode) (m' : Meaning) → Base t m → m' ≡ replay os m → Fit (blocks_of m) (new_tree (model_of t m) n d) → Changed t m n d os w' m' → Fine (with_change (model_of t m) n d) w' m'
+grown_fine t m n d os w' m' B em F G = subst (λ x. Changed t m n d os w' x → Fine (with_change (model_of t m) n d) w' x) (sym em) (at_end t m n d os w' B F) G
   where
     at_end : (t : Tables) (m : Meaning) (n : ℕ) (d : Change ℕ) (os : List Op) (w' : Mode) → Base t m → Fit (blocks_of m) (new_tree (model_of t m) n d) → Changed t m n d os w' (replay os m) → Fine (with_change (model_of t m) n d) w' (replay os m)
     at_end = sown_fine
@@ -235,8 +235,8 @@ quiet_fine p w w' m m' os em q f =
     subst (λ x. Fine p x m') (sym q.1) (subst (λ x. Fine p w x) (sym e) f)
 
 -- the working place n gets what is at o
-placed-base : (t : Tables) (m : Meaning) (n : ℕ) (o : Option Root) → Base t m → OnPlace (Good (blocks_of m) (current_at m)) o → Base (placed t (set t.working n o)) m
-placed-base t m n o B g = record {
+placed_base : (t : Tables) (m : Meaning) (n : ℕ) (o : Option Root) → Base t m → OnPlace (Good (blocks_of m) (current_at m)) o → Base (placed t (set t.working n o)) m
+placed_base t m n o B g = record {
   calm = B.calm;
   kept = B.kept;
   len = length-set t.working n o ∙ B.len;
@@ -245,7 +245,7 @@ placed-base t m n o B g = record {
 
 -- seal
 flush_contents : (m : Meaning) → current_at (apply flush m) ≡ current_at m
-flush_contents m = fun_ext (λ b. ap (λ c. c.current) (flush-at m b))
+flush_contents m = fun_ext (λ b. ap (λ c. c.current) (flush_at m b))
 
 model_flush : (t : Tables) (m : Meaning) → model_of t (apply flush m) ≡ model_of t m
 model_flush t m = λ i. record {
@@ -271,34 +271,34 @@ IsNone : {A : Type 0} → Option A → Type 0
 IsNone None = Unit
 IsNone (Some x) = ⊥
 
-second-fails : (p q : Bool) (r s : Refusal) → first ((p, r) ∷ (q, s) ∷ []) ≡ None → q ≡ false
+second_fails : (p q : Bool) (r s : Refusal) → first ((p, r) ∷ (q, s) ∷ []) ≡ None → q ≡ false
 unfolding IsNone
-second-fails true q r s e = absurd (subst IsNone (sym e) tt)
-second-fails false true r s e = absurd (subst IsNone (sym e) tt)
-second-fails false false r s e = refl
+second_fails true q r s e = absurd (subst IsNone (sym e) tt)
+second_fails false true r s e = absurd (subst IsNone (sym e) tt)
+second_fails false false r s e = refl
 
 seal_fits : (t : Tables) (m : Meaning) → t.generation ≤ 268435455 → late (shape t m) seal ≡ None → suc t.generation ≤ 268435455
 seal_fits t m h e =
-    let q : eqb t.generation 268435455 ≡ false = second-fails (ltb m.left 1) (eqb t.generation 268435455) (Worn None m.left_mark) Last e in
+    let q : eqb t.generation 268435455 ≡ false = second_fails (ltb m.left 1) (eqb t.generation 268435455) (Worn None m.left_mark) Last e in
     let ne : t.generation ≡ 268435455 → ⊥ = λ z. subst T (sym (equal t.generation 268435455 z) ∙ q) tt in
     omega (arith, ne)
 
 effect_fine : (q : Ask) (t : Tables) (m : Meaning) (os : List Op) (w' : Mode) (m' : Meaning) → Base t m → m' ≡ replay os m
     → refusal (shape t m) q ≡ None → Effect t m q os w' m' → Fine (after (model_of t m) q) w' m'
 unfolding Fine
-effect_fine (create n) t m os w' m' B em no' E = grown-fine t m n begin os w' m' B em (create-fit t m B.kept.sized B.goods n no') E
+effect_fine (create n) t m os w' m' B em no' E = grown_fine t m n begin os w' m' B em (create_fit t m B.kept.sized B.goods n no') E
 effect_fine (clone f n) t m os w' m' B em no' E =
     let o : Option Root = place t.working f in
     let e : trees (current_at m) (set t.working n o) ≡ set (trees (current_at m) t.working) n (place (trees (current_at m) t.working) f)
     = trees_put (current_at m) t.working n o ∙ ap (λ x. set (trees (current_at m) t.working) n x) (sym (trees_place (current_at m) t.working f)) in
-    quiet_fine _ (mounted (placed t (set t.working n o))) w' m m' os em E (placed-base t m n o B (good_at _ t.working f B.goods), ap (working≔ (model_of t m)) e)
+    quiet_fine _ (mounted (placed t (set t.working n o))) w' m m' os em E (placed_base t m n o B (good_at _ t.working f B.goods), ap (working≔ (model_of t m)) e)
 effect_fine (delete n) t m os w' m' B em no' E =
-    quiet_fine _ (mounted (placed t (set t.working n None))) w' m m' os em E (placed-base t m n None B tt, ap (working≔ (model_of t m)) (trees_put (current_at m) t.working n None))
-effect_fine (put n s a) t m os w' m' B em no' E = grown-fine t m n (puts s (raw a)) os w' m' B em (put_fit t m B.kept.sized B.goods n s a no') E
+    quiet_fine _ (mounted (placed t (set t.working n None))) w' m m' os em E (placed_base t m n None B tt, ap (working≔ (model_of t m)) (trees_put (current_at m) t.working n None))
+effect_fine (put n s a) t m os w' m' B em no' E = grown_fine t m n (puts s (raw a)) os w' m' B em (put_fit t m B.kept.sized B.goods n s a no') E
 effect_fine (remove n s) t m os w' m' B em no' E = go (holds (shape t m) n s) refl E
   where
     go : (k : Bool) → holds (shape t m) n s ≡ k → cond k (Changed t m n (takes s) os w' m') (Quiet (mounted t) os w') → Fine (cond k (with_change (model_of t m) n (takes s)) (model_of t m)) w' m'
-    go true h E = grown-fine t m n (takes s) os w' m' B em (remove_fit t m B.kept.sized B.goods n s no' h) E
+    go true h E = grown_fine t m n (takes s) os w' m' B em (remove_fit t m B.kept.sized B.goods n s no' h) E
     go false h E = quiet_fine _ (mounted t) w' m m' os em E (B, refl)
 effect_fine (get n s) t m os w' m' B em no' E = quiet_fine _ (mounted t) w' m m' os em E (B, refl)
 effect_fine (at n s) t m os w' m' B em no' E = quiet_fine _ (mounted t) w' m m' os em E (B, refl)
@@ -306,14 +306,14 @@ effect_fine (rows n s k) t m os w' m' B em no' E = quiet_fine _ (mounted t) w' m
 effect_fine (summary k n) t m os w' m' B em no' E = quiet_fine _ (mounted t) w' m m' os em E (B, refl)
 effect_fine seal t m os w' m' B em no' E =
     let e : m' ≡ apply flush m = em ∙ ap (λ x. replay x m) E.0 in
-    subst (λ x. Fine (model_of t m) x m') (sym E.1) (subst (λ x. Fine (model_of t m) (sealed t) x) (sym e) (seal_base t m B, (λ b. ap (λ c. c.mark) (flush-at m b)), seal_fits t m B.kept.fits no', model_flush t m))
+    subst (λ x. Fine (model_of t m) x m') (sym E.1) (subst (λ x. Fine (model_of t m) (sealed t) x) (sym e) (seal_base t m B, (λ b. ap (λ c. c.mark) (flush_at m b)), seal_fits t m B.kept.fits no', model_flush t m))
 
 -- the device after the slot of the working table is written, however that came
-commit-kept : (t : Tables) (m d : Meaning) → Base t m → suc t.generation ≤ 268435455 → blocks_of d ≡ blocks_of m → d.width ≡ m.width → ((b : ℕ) → (cell_at d b).mark ≡ 0)
+commit_kept : (t : Tables) (m d : Meaning) → Base t m → suc t.generation ≤ 268435455 → blocks_of d ≡ blocks_of m → d.width ≡ m.width → ((b : ℕ) → (cell_at d b).mark ≡ 0)
     → current_at d (suc t.generation % 2) ≡ words (slot_words m.width (suc t.generation) t.working)
     → ((b : ℕ) → (b ≡ suc t.generation % 2 → ⊥) → current_at d b ≡ current_at m b)
     → Kept d (suc t.generation) t.working × (trees (current_at d) t.working ≡ trees (current_at m) t.working)
-commit-kept t m d B fits eb ed still ew else' =
+commit_kept t m d B fits eb ed still ew else' =
     let g : ℕ = t.generation in
     let same : Same (Reaches (current_at m) t.working) (current_at m) (current_at d)
     = λ b h. (let q : 2 ≤ b = good_inside (blocks_of m) (current_at m) t.working B.goods b h in else' b (λ e. omega arith)) in
@@ -345,9 +345,9 @@ finish_kept : (t : Tables) (m : Meaning) → Base t m → suc t.generation ≤ 2
 finish_kept t m B fits =
     let s : ℕ = suc t.generation % 2 in
     let ws : List ℕ = slot_words m.width (suc t.generation) t.working in
-    commit-kept t m (replay (slot_op t m ∷ flush ∷ []) m) B fits (blocks_replay (slot_op t m ∷ flush ∷ []) m) refl (λ b. ap (λ c. c.mark) (flush-at (written m s ws) b))
-    (ap (λ c. c.current) (flush-at (written m s ws) s) ∙ ap (λ c. c.current) (write_at m s ws (slot_there m (suc t.generation) B.kept.sized)))
-    (λ b e. ap (λ c. c.current) (flush-at (written m s ws) b) ∙ ap (λ c. c.current) (write_off m s b ws e))
+    commit_kept t m (replay (slot_op t m ∷ flush ∷ []) m) B fits (blocks_replay (slot_op t m ∷ flush ∷ []) m) refl (λ b. ap (λ c. c.mark) (flush_at (written m s ws) b))
+    (ap (λ c. c.current) (flush_at (written m s ws) s) ∙ ap (λ c. c.current) (write_at m s ws (slot_there m (suc t.generation) B.kept.sized)))
+    (λ b e. ap (λ c. c.current) (flush_at (written m s ws) b) ∙ ap (λ c. c.current) (write_off m s b ws e))
 
 finish_fine : (t : Tables) (m : Meaning) → Base t m → suc t.generation ≤ 268435455 → Fine (finished (model_of t m)) (mounted (finished_tables t)) (replay (slot_op t m ∷ flush ∷ []) m)
 unfolding Fine
@@ -359,10 +359,10 @@ finish_fine t m B fits =
     )
 
 -- power fails between the write and the flush
-torn-fine : (t : Tables) (m : Meaning) (κ : Cutting) → Base t m → ((b : ℕ) → (cell_at m b).mark ≡ 0) → suc t.generation ≤ 268435455
+torn_fine : (t : Tables) (m : Meaning) (κ : Cutting) → Base t m → ((b : ℕ) → (cell_at m b).mark ≡ 0) → suc t.generation ≤ 268435455
     → Fine (cut_model κ (landed (κ.choice (suc t.generation % 2)) (model_of t m))) down (cut κ (apply (slot_op t m) m))
 unfolding Fine
-torn-fine t m κ B still fits = go (κ.choice s) refl
+torn_fine t m κ B still fits = go (κ.choice s) refl
   where
     s : ℕ
     s = suc t.generation % 2
@@ -403,7 +403,7 @@ torn-fine t m κ B still fits = go (κ.choice s) refl
     was e =
         let R : List ℕ = 0 ∷ 1 ∷ Reaches (current_at m) t.committed in
         let ks : Keeps R m d = λ b h. same_old e b in
-        (calm-cut κ (written m s ws), (t.generation, t.committed, kept_keeps m d t.generation t.committed eb refl ks B.kept, trees_same (current_at m) (current_at d) t.committed (keeps_in m d t.committed ks), refl, eb, refl, refl))
+        (calm_cut κ (written m s ws), (t.generation, t.committed, kept_keeps m d t.generation t.committed eb refl ks B.kept, trees_same (current_at m) (current_at d) t.committed (keeps_in m d t.committed ks), refl, eb, refl, refl))
 
     -- the slot is the new one
     at_new : (k : Choice) (c : Cell) → ((k ≡ new) ⊎ ((x : Content) × (k ≡ other x))) → c.mark ≡ 0 → (cut_cell k (written_cell ws c)).current ≡ words ws
@@ -412,10 +412,10 @@ torn-fine t m κ B still fits = go (κ.choice s) refl
 
     is : ((κ.choice s ≡ new) ⊎ ((x : Content) × (κ.choice s ≡ other x))) → Fine (cut_model κ (finished (model_of t m))) down d
     is e =
-        let K = commit-kept t m d B fits eb refl (λ b. ap (λ c. c.mark) (cut_at κ (written m s ws) b))
+        let K = commit_kept t m d B fits eb refl (λ b. ap (λ c. c.mark) (cut_at κ (written m s ws) b))
         (ap (λ c. c.current) here ∙ at_new (κ.choice s) (cell_at m s) e (still s))
         (λ b q. ap (λ c. c.current) (off b q)) in
-        (calm-cut κ (written m s ws), (suc t.generation, t.working, K.0, K.1, refl, eb, refl, refl))
+        (calm_cut κ (written m s ws), (suc t.generation, t.working, K.0, K.1, refl, eb, refl, refl))
 
     go : (k : Choice) → κ.choice s ≡ k → Fine (cut_model κ (landed k (model_of t m))) down d
     go old e = was e
@@ -423,19 +423,19 @@ torn-fine t m κ B still fits = go (κ.choice s) refl
     go (other x) e = is (inr (x, e))
 
 -- power fails between two calls
-pub idle-cut : (M : Model) (κ : Cutting) (w : Mode) (m : Meaning) → Fine M w m → Fine (cut_model κ M) down (cut κ m)
+pub idle_cut : (M : Model) (κ : Cutting) (w : Mode) (m : Meaning) → Fine M w m → Fine (cut_model κ M) down (cut κ m)
 unfolding Fine
-idle-cut M κ (mounted t) m f = cut_fine M κ m t.generation t.committed f.0.calm f.0.kept (ap (λ x. x.committed) f.1) (ap (λ x. x.generation) f.1) (ap (λ x. x.blocks) f.1)
-idle-cut M κ (sealed t) m f = cut_fine M κ m t.generation t.committed f.0.calm f.0.kept (ap (λ x. x.committed) f.3) (ap (λ x. x.generation) f.3) (ap (λ x. x.blocks) f.3)
-idle-cut M κ down m f = cut_fine M κ m f.1.0 f.1.1 f.0 f.1.2 f.1.3 f.1.4 f.1.5
+idle_cut M κ (mounted t) m f = cut_fine M κ m t.generation t.committed f.0.calm f.0.kept (ap (λ x. x.committed) f.1) (ap (λ x. x.generation) f.1) (ap (λ x. x.blocks) f.1)
+idle_cut M κ (sealed t) m f = cut_fine M κ m t.generation t.committed f.0.calm f.0.kept (ap (λ x. x.committed) f.3) (ap (λ x. x.generation) f.3) (ap (λ x. x.blocks) f.3)
+idle_cut M κ down m f = cut_fine M κ m f.1.0 f.1.1 f.0 f.1.2 f.1.3 f.1.4 f.1.5
 
 take_none : (k : ℕ) (os : List Op) → os ≡ [] → take k os ≡ []
 take_none zero os e = refl
 take_none (suc k) os e = ap (take (suc k)) e
 
 -- power fails inside a call without device calls
-quiet-cut : (p : Model) (κ : Cutting) (w : Mode) (m : Meaning) (os : List Op) (k : ℕ) → os ≡ [] → Fine p w m → Fine (cut_model κ p) down (cut κ (replay (take k os) m))
-quiet-cut p κ w m os k e f = subst (λ x. Fine (cut_model κ p) down (cut κ (replay x m))) (sym (take_none k os e)) (idle-cut p κ w m f)
+quiet_cut : (p : Model) (κ : Cutting) (w : Mode) (m : Meaning) (os : List Op) (k : ℕ) → os ≡ [] → Fine p w m → Fine (cut_model κ p) down (cut κ (replay (take k os) m))
+quiet_cut p κ w m os k e f = subst (λ x. Fine (cut_model κ p) down (cut κ (replay x m))) (sym (take_none k os e)) (idle_cut p κ w m f)
 
 -- the device calls of what a mounted volume is asked
 effect_ops : (q : Ask) (t : Tables) (m : Meaning) (os : List Op) (w' : Mode) (m' : Meaning) → Effect t m q os w' m' → (os ≡ flush ∷ []) ⊎ Each (FreeWrite t m) os
@@ -454,32 +454,32 @@ effect_ops (rows n s k) t m os w' m' E = inr (subst (Each (FreeWrite t m)) (sym 
 effect_ops (summary k n) t m os w' m' E = inr (subst (Each (FreeWrite t m)) (sym E.0) tt)
 effect_ops seal t m os w' m' E = inl E.0
 
-free-cut : (t : Tables) (m : Meaning) (os : List Op) (κ : Cutting) → Base t m → Each (FreeWrite t m) os → Fine (cut_model κ (model_of t m)) down (cut κ (replay os m))
-free-cut t m os κ B f =
+free_cut : (t : Tables) (m : Meaning) (os : List Op) (κ : Cutting) → Base t m → Each (FreeWrite t m) os → Fine (cut_model κ (model_of t m)) down (cut κ (replay os m))
+free_cut t m os κ B f =
     let K = free_kept t m os B f in
     cut_fine (model_of t m) κ (replay os m) t.generation t.committed (calm_replay os m B.calm) K.0 K.1 refl (blocks_replay os m)
 
-flush-cut : (t : Tables) (m : Meaning) (κ : Cutting) (k : ℕ) → Base t m → Fine (cut_model κ (model_of t m)) down (cut κ (replay (take k (flush ∷ [])) m))
+flush_cut : (t : Tables) (m : Meaning) (κ : Cutting) (k : ℕ) → Base t m → Fine (cut_model κ (model_of t m)) down (cut κ (replay (take k (flush ∷ [])) m))
 unfolding Fine
-flush-cut t m κ zero B = idle-cut (model_of t m) κ (mounted t) m (B, refl)
-flush-cut t m κ (suc k) B =
-    subst (λ x. Fine (cut_model κ (model_of t m)) down (cut κ (replay (flush ∷ x) m))) (sym (take_none k [] refl)) (idle-cut (model_of t m) κ (mounted t) (apply flush m) (seal_base t m B, model_flush t m))
+flush_cut t m κ zero B = idle_cut (model_of t m) κ (mounted t) m (B, refl)
+flush_cut t m κ (suc k) B =
+    subst (λ x. Fine (cut_model κ (model_of t m)) down (cut κ (replay (flush ∷ x) m))) (sym (take_none k [] refl)) (idle_cut (model_of t m) κ (mounted t) (apply flush m) (seal_base t m B, model_flush t m))
 
-effect-cut : (q : Ask) (t : Tables) (m : Meaning) (os : List Op) (w' : Mode) (m' : Meaning) (k : ℕ) (κ : Cutting) → Base t m → Effect t m q os w' m' → Fine (cut_model κ (model_of t m)) down (cut κ (replay (take k os) m))
-effect-cut q t m os w' m' k κ B E =
+effect_cut : (q : Ask) (t : Tables) (m : Meaning) (os : List Op) (w' : Mode) (m' : Meaning) (k : ℕ) (κ : Cutting) → Base t m → Effect t m q os w' m' → Fine (cut_model κ (model_of t m)) down (cut κ (replay (take k os) m))
+effect_cut q t m os w' m' k κ B E =
     elim (effect_ops q t m os w' m' E) [
-      | inl e ↦ subst (λ x. Fine (cut_model κ (model_of t m)) down (cut κ (replay (take k x) m))) (sym e) (flush-cut t m κ k B)
-      | inr f ↦ free-cut t m (take k os) κ B (each_take (FreeWrite t m) k os f)
+      | inl e ↦ subst (λ x. Fine (cut_model κ (model_of t m)) down (cut κ (replay (take k x) m))) (sym e) (flush_cut t m κ k B)
+      | inr f ↦ free_cut t m (take k os) κ B (each_take (FreeWrite t m) k os f)
     ]
 
-finish-cut : (t : Tables) (m : Meaning) (k : ℕ) (κ : Cutting) → Base t m → ((b : ℕ) → (cell_at m b).mark ≡ 0) → suc t.generation ≤ 268435455
+finish_cut : (t : Tables) (m : Meaning) (k : ℕ) (κ : Cutting) → Base t m → ((b : ℕ) → (cell_at m b).mark ≡ 0) → suc t.generation ≤ 268435455
     → Fine (cut_model κ (broken (model_of t m) finish k κ)) down (cut κ (replay (take k (slot_op t m ∷ flush ∷ [])) m))
 unfolding Fine
-finish-cut t m zero κ B still fits = idle-cut (model_of t m) κ (mounted t) m (B, refl)
-finish-cut t m (suc zero) κ B still fits = torn-fine t m κ B still fits
-finish-cut t m (suc (suc k)) κ B still fits =
+finish_cut t m zero κ B still fits = idle_cut (model_of t m) κ (mounted t) m (B, refl)
+finish_cut t m (suc zero) κ B still fits = torn_fine t m κ B still fits
+finish_cut t m (suc (suc k)) κ B still fits =
     let p : Model = finished (model_of t m) in
-    subst (λ x. Fine (cut_model κ p) down (cut κ (replay (slot_op t m ∷ flush ∷ x) m))) (sym (take_none k [] refl)) (idle-cut p κ (mounted (finished_tables t)) (replay (slot_op t m ∷ flush ∷ []) m) (finish_fine t m B fits))
+    subst (λ x. Fine (cut_model κ p) down (cut κ (replay (slot_op t m ∷ flush ∷ x) m))) (sym (take_none k [] refl)) (idle_cut p κ (mounted (finished_tables t)) (replay (slot_op t m ∷ flush ∷ []) m) (finish_fine t m B fits))
 
 module _ (V : Type 0) (join : ℕ → Map → V) where
   mounts_fine : (M : Model) (m : Meaning) (g : ℕ) (t : Table) (a : Answer V) (os : List Op) (w' : Mode) (m' : Meaning)
@@ -506,16 +506,16 @@ module _ (V : Type 0) (join : ℕ → Map → V) where
       go (Some r) e D = (D.0, quiet_fine M (mounted t) w' m m' os em D.1 (B, refl))
       go None e D = (D.0, effect_fine q t m os w' m' B em e D.1)
 
-  ask-cut : (q : Ask) (t : Tables) (m : Meaning) (a : Answer V) (os : List Op) (w' : Mode) (m' : Meaning) (k : ℕ) (κ : Cutting) → Base t m → Does V join (mounted t) m (ask q) a os w' m'
+  ask_cut : (q : Ask) (t : Tables) (m : Meaning) (a : Answer V) (os : List Op) (w' : Mode) (m' : Meaning) (k : ℕ) (κ : Cutting) → Base t m → Does V join (mounted t) m (ask q) a os w' m'
       → Fine (cut_model κ (model_of t m)) down (cut κ (replay (take k os) m))
   unfolding Fine
-  ask-cut q t m a os w' m' k κ B D = go (refusal (shape t m) q) D
+  ask_cut q t m a os w' m' k κ B D = go (refusal (shape t m) q) D
     where
       go : (o : Option Refusal)
           → elim o as (λ _. Type 0) [ Some r ↦ (a ≡ refused r) × Quiet (mounted t) os w' | None ↦ (a ≡ answer V join (maps_of (model_of t m).working) q) × Effect t m q os w' m' ]
           → Fine (cut_model κ (model_of t m)) down (cut κ (replay (take k os) m))
-      go (Some r) D = quiet-cut (model_of t m) κ (mounted t) m os k D.1.0 (B, refl)
-      go None D = effect-cut q t m os w' m' k κ B D.1
+      go (Some r) D = quiet_cut (model_of t m) κ (mounted t) m os k D.1.0 (B, refl)
+      go None D = effect_cut q t m os w' m' k κ B D.1
 
   pub step_fine : (w : Mode) (c : Call) (M : Model) (m : Meaning) (a : Answer V) (os : List Op) (w' : Mode) (m' : Meaning) → Fine M w m → Step V join w m c a os w' m'
       → (a ≡ reply V join M c) × Fine (next M c) w' m'
@@ -540,20 +540,20 @@ module _ (V : Type 0) (join : ℕ → Map → V) where
   pub broke_fine : (w : Mode) (c : Call) (M : Model) (m : Meaning) (a : Answer V) (os : List Op) (w' : Mode) (m' : Meaning) (k : ℕ) (κ : Cutting) → Fine M w m → Step V join w m c a os w' m'
       → Fine (cut_model κ (broken M c k κ)) down (cut κ (replay (take k os) m))
   unfolding Fine
-  broke_fine (mounted t) (ask q) M m a os w' m' k κ f S = subst (λ x. Fine (cut_model κ x) down (cut κ (replay (take k os) m))) f.1 (ask-cut q t m a os w' m' k κ f.0 S.1)
+  broke_fine (mounted t) (ask q) M m a os w' m' k κ f S = subst (λ x. Fine (cut_model κ x) down (cut κ (replay (take k os) m))) f.1 (ask_cut q t m a os w' m' k κ f.0 S.1)
   broke_fine (mounted t) finish M m a os w' m' k κ f S = absurd S.1
   broke_fine (mounted t) reopen M m a os w' m' k κ f S = absurd S.1
-  broke_fine (mounted t) mount M m a os w' m' k κ f S = quiet-cut M κ (mounted t) m os k S.1.0 f
+  broke_fine (mounted t) mount M m a os w' m' k κ f S = quiet_cut M κ (mounted t) m os k S.1.0 f
   broke_fine (sealed t) (ask q) M m a os w' m' k κ f S = absurd S.1
   broke_fine (sealed t) finish M m a os w' m' k κ f S =
       subst (λ x. Fine (cut_model κ (broken M finish k κ)) down (cut κ (replay (take k x) m))) (sym S.1.1)
-      (subst (λ x. Fine (cut_model κ (broken x finish k κ)) down (cut κ (replay (take k (slot_op t m ∷ flush ∷ [])) m))) f.3 (finish-cut t m k κ f.0 f.1 f.2))
-  broke_fine (sealed t) reopen M m a os w' m' k κ f S = quiet-cut M κ (sealed t) m os k S.1.1.0 f
+      (subst (λ x. Fine (cut_model κ (broken x finish k κ)) down (cut κ (replay (take k (slot_op t m ∷ flush ∷ [])) m))) f.3 (finish_cut t m k κ f.0 f.1 f.2))
+  broke_fine (sealed t) reopen M m a os w' m' k κ f S = quiet_cut M κ (sealed t) m os k S.1.1.0 f
   broke_fine (sealed t) mount M m a os w' m' k κ f S = absurd S.1
   broke_fine down (ask q) M m a os w' m' k κ f S = absurd S.1
   broke_fine down finish M m a os w' m' k κ f S = absurd S.1
   broke_fine down reopen M m a os w' m' k κ f S = absurd S.1
-  broke_fine down mount M m a os w' m' k κ f S = quiet-cut M κ down m os k S.1.0 f
+  broke_fine down mount M m a os w' m' k κ f S = quiet_cut M κ down m os k S.1.0 f
 
   traced : (es : List (Event V)) (M : Model) (w : Mode) (m : Meaning) → Fine M w m → Run V join w m es → Traced V join M es
   traced [] M w m f R = tt
@@ -562,11 +562,11 @@ module _ (V : Type 0) (join : ℕ → Map → V) where
       (s.0, traced es (next M c) w' m' s.1 R.1)
   traced (broke c os k κ ∷ es) M w m f R =
       traced es (cut_model κ (broken M c k κ)) down (cut κ (replay (take k os) m)) (broke_fine w c M m R.0.0 os R.0.1 R.0.2 k κ f R.0.3) R.1
-  traced (lost κ ∷ es) M w m f R = traced es (cut_model κ M) down (cut κ m) (idle-cut M κ w m f) R
+  traced (lost κ ∷ es) M w m f R = traced es (cut_model κ M) down (cut κ m) (idle_cut M κ w m f) R
 
-  pub formatted-fine : (m : Meaning) → Formatted m → Fine (model_of bare m) (mounted bare) m
+  pub formatted_fine : (m : Meaning) → Formatted m → Fine (model_of bare m) (mounted bare) m
   unfolding Fine
-  formatted-fine m f =
+  formatted_fine m f =
       let kept : Kept m 1 blank = record {
         sized = f.0;
         still = λ b h. f.1 b;
@@ -582,4 +582,4 @@ module _ (V : Type 0) (join : ℕ → Map → V) where
       (record { calm = f.2; kept = kept; len = refl; goods = tt }, refl)
 
 pub refines : (V : Type 0) → Refines V
-refines V join m es f R = traced V join es (model_of bare m) (mounted bare) m (formatted-fine V join m f) R
+refines V join m es f R = traced V join es (model_of bare m) (mounted bare) m (formatted_fine V join m f) R

@@ -2,7 +2,7 @@
 use Rattle.std.proofs.Common.{◌≡◌, ℕ, zero, suc, ◌+◌, ◌*◌, ◌%◌, ◌<◌, ◌≤◌, Bool, true, false, cond, T, List, [], ◌∷◌, ◌++◌, length, take, set, ℤ, Some, None, Ok, Err, Option, Result, sym, refl, ap, ◌∙◌, subst, ap₂, subst₂, arith}
 use Rattle.device.specs.Meaning.{Content, Meaning, blocks_of, current_at, written, flushed, spent}
 use Rattle.device.specs.Cuts.{Op, Op.write, Op.flush, Cutting, apply, replay, cut, cell_at}
-use Rattle.device.proofs.Choices.{flush-at, write_at, write_off, blocks_apply, blocks_replay}
+use Rattle.device.proofs.Choices.{flush_at, write_at, write_off, blocks_apply, blocks_replay}
 use Rattle.page.specs.Slot.{Root, Table, slot_words}
 use Rattle.model.specs.declared.refusal.Refusal.{Refusal}
 use Rattle.model.specs.Plain.{Map, place, Ask, Call, Answer, answer, blank, early, has}
@@ -14,8 +14,8 @@ use Rattle.model.specs.Right.{Ends}
 use Rattle.model.specs.Onward.{Turn, Goes_on, formatting, Formats}
 use Rattle.model.proofs.TreeLaws.{elem_left, elem_right, stored_same, reach_form}
 use Rattle.model.proofs.Frames.{Goods, Reaches}
-use Rattle.model.proofs.Grants.{Start, put_start, remove_start, enough, create-fit, put_fit, remove_fit, either_none, sizes_parts}
-use Rattle.model.proofs.Histories.{Base, Fine, step_fine, broke_fine, idle-cut, formatted-fine, in-working}
+use Rattle.model.proofs.Grants.{Start, put_start, remove_start, enough, create_fit, put_fit, remove_fit, either_none, sizes_parts}
+use Rattle.model.proofs.Histories.{Base, Fine, step_fine, broke_fine, idle_cut, formatted_fine, in_working}
 use Rattle.model.proofs.Progress.{script, met}
 
 -- a clone's blocks are used
@@ -35,7 +35,7 @@ module _ (t : Tables) (m : Meaning) (B : Base t m) where
       let R = s.rooted in
       let r : Root = R.root in
       subst (Stored c) (sym R.tree)
-      (stored_same (current_at m) c (tree_at (current_at m) r) (λ b q. h b (in-working t m b (spot_reach (current_at m) t.working n r b R.spot q))) R.good.stored)
+      (stored_same (current_at m) c (tree_at (current_at m) r) (λ b q. h b (in_working t m b (spot_reach (current_at m) t.working n r b R.spot q))) R.good.stored)
 
   abbrev Can : Ask → Type 0
   Can q = (os : List Op) × (w' : Mode) × Effect t m q os w' (replay os m)
@@ -55,7 +55,7 @@ module _ (t : Tables) (m : Meaning) (B : Base t m) where
     script t m B n begin,
     mounted (placed t (set t.working n (Some (root_of (new_tree (model_of t m) n begin))))),
     met t m B n begin (enough t m B.kept.sized B.goods n 1 (either_none (early (has (shape t m).working) (create n)) (late (shape t m) (create n)) e).1)
-        (create-fit t m B.kept.sized B.goods n e) (λ c h. tt),
+        (create_fit t m B.kept.sized B.goods n e) (λ c h. tt),
   )
   can (clone f n) e = ([], mounted (placed t (set t.working n (place t.working f))), (refl, refl))
   can (delete n) e = ([], mounted (placed t (set t.working n None)), (refl, refl))
@@ -85,8 +85,8 @@ module _ (V : Type 0) (join : ℕ → Map → V) where
       go (Some r) e = (refused r, [], mounted t, m, (refl, (refl, (refl, refl))))
       go None e = let y = can t m B q e in (answer V join (maps_of (model_of t m).working) q, y.0, y.1, replay y.0 m, (refl, (refl, y.2)))
 
-  can-mount : (w : Mode) (m : Meaning) → (a : Answer V) × (os : List Op) × (w' : Mode) × (m' : Meaning) × ((m' ≡ replay os m) × Mounts V join m a os w')
-  can-mount w m = go (found m) refl
+  can_mount : (w : Mode) (m : Meaning) → (a : Answer V) × (os : List Op) × (w' : Mode) × (m' : Meaning) × ((m' ≡ replay os m) × Mounts V join m a os w')
+  can_mount w m = go (found m) refl
     where
       go : (o : Result (ℕ × Table) Refusal) → found m ≡ o
           → (a : Answer V) × (os : List Op) × (w' : Mode) × (m' : Meaning) × ((m' ≡ replay os m) × ((os ≡ []) × elim o as (λ _. Type 0) [ Ok x ↦ (a ≡ done) × (w' ≡ mounted (fresh x)) | Err r ↦ (a ≡ refused r) × (w' ≡ down) ]))
@@ -98,7 +98,7 @@ module _ (V : Type 0) (join : ℕ → Map → V) where
   possible (mounted t) (ask q) M m f u = can_ask q t m f.0
   possible (mounted t) finish M m f u = absurd u
   possible (mounted t) reopen M m f u = absurd u
-  possible (mounted t) mount M m f u = can-mount (mounted t) m
+  possible (mounted t) mount M m f u = can_mount (mounted t) m
   possible (sealed t) (ask q) M m f u = absurd u
   possible (sealed t) finish M m f u =
       let os : List Op = write (suc t.generation % 2) (slot_words m.width (suc t.generation) t.working) ∷ flush ∷ [] in
@@ -108,18 +108,18 @@ module _ (V : Type 0) (join : ℕ → Map → V) where
   possible down (ask q) M m f u = absurd u
   possible down finish M m f u = absurd u
   possible down reopen M m f u = absurd u
-  possible down mount M m f u = can-mount down m
+  possible down mount M m f u = can_mount down m
 
   end_fine : (es : List (Event V)) (M : Model) (w : Mode) (m : Meaning) (v : Mode) (d : Meaning) → Fine M w m → Run V join w m es → Ends w m es v d → (N : Model) × Fine N v d
   end_fine [] M w m v d f R e = (M, subst₂ (λ x y. Fine M x y) e.0 e.1 f)
   end_fine (did c a os w' m' ∷ es) M w m v d f R e = end_fine es (next M c) w' m' v d (step_fine V join w c M m a os w' m' f R.0).1 R.1 e
   end_fine (broke c os k κ ∷ es) M w m v d f R e =
       end_fine es (cut_model κ (broken M c k κ)) down (cut κ (replay (take k os) m)) v d (broke_fine V join w c M m R.0.0 os R.0.1 R.0.2 k κ f R.0.3) R.1 e
-  end_fine (lost κ ∷ es) M w m v d f R e = end_fine es (cut_model κ M) down (cut κ m) v d (idle-cut M κ w m f) R e
+  end_fine (lost κ ∷ es) M w m v d f R e = end_fine es (cut_model κ M) down (cut κ m) v d (idle_cut M κ w m f) R e
 
 pub goes_on : (V : Type 0) → Goes_on V
 goes_on V join m es w d c f R e u =
-    let y = end_fine V join es (model_of bare m) (mounted bare) m w d (formatted-fine V join m f) R e in
+    let y = end_fine V join es (model_of bare m) (mounted bare) m w d (formatted_fine V join m f) R e in
     possible V join w c y.0 d y.1 u
 
 pub formats : Formats
@@ -132,8 +132,8 @@ formats m z =
     let p = (sizes_parts (blocks_of m) w z).0 in
     let b₁ : blocks_of m₁ ≡ blocks_of m = blocks_apply (write 0 s₀) m in (
       ap (λ n. sizes n w) (blocks_replay (formatting w) m) ∙ z,
-      (λ b. ap (λ c. c.mark) (flush-at m₂ b)),
-      (λ b e. ap (λ c. c.persisted) (flush-at m₂ b) ∙ ap (λ c. c.current) (sym (flush-at m₂ b))),
-      ap (λ c. c.current) (flush-at m₂ 0) ∙ ap (λ c. c.current) (write_off m₁ 1 0 s₁ (λ e. omega arith)) ∙ ap (λ c. c.current) (write_at m 0 s₀ (omega arith)),
-      ap (λ c. c.current) (flush-at m₂ 1) ∙ ap (λ c. c.current) (write_at m₁ 1 s₁ (omega arith)),
+      (λ b. ap (λ c. c.mark) (flush_at m₂ b)),
+      (λ b e. ap (λ c. c.persisted) (flush_at m₂ b) ∙ ap (λ c. c.current) (sym (flush_at m₂ b))),
+      ap (λ c. c.current) (flush_at m₂ 0) ∙ ap (λ c. c.current) (write_off m₁ 1 0 s₁ (λ e. omega arith)) ∙ ap (λ c. c.current) (write_at m 0 s₀ (omega arith)),
+      ap (λ c. c.current) (flush_at m₂ 1) ∙ ap (λ c. c.current) (write_at m₁ 1 s₁ (omega arith)),
     )

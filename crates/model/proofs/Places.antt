@@ -36,8 +36,8 @@ forms_set (Some x ∷ t) zero (Some y) = refl
 forms_set (None ∷ t) (suc n) o = ap {B = Forms} (λ y. None ∷ y) (forms_set t n o)
 forms_set (Some x ∷ t) (suc n) o = ap {B = Forms} (λ y. Some (x.0, form x.1) ∷ y) (forms_set t n o)
 
-pub form-at : (M : Model) (n : ℕ) → form (tree_of M n) ≡ form_at (shape_of M) n
-form-at M n = go (place M.working n) ∙ ap (λ o. elim o as (λ _. Form) [ Some x ↦ x.1 | None ↦ form bare_tree ]) (sym (forms_place M.working n))
+pub form_at_lem : (M : Model) (n : ℕ) → form (tree_of M n) ≡ form_at (shape_of M) n
+form_at_lem M n = go (place M.working n) ∙ ap (λ o. elim o as (λ _. Form) [ Some x ↦ x.1 | None ↦ form bare_tree ]) (sym (forms_place M.working n))
   where
     go : (o : Option (Root × Tree)) → form (elim o as (λ _. Tree) [ Some x ↦ x.1 | None ↦ bare_tree ]) ≡ elim (form_of? o) as (λ _. Form) [ Some x ↦ x.1 | None ↦ form bare_tree ]
     go None = refl

@@ -21,14 +21,14 @@ use Rattle.tree.proofs.Apart.{below, places_apart}
 use Rattle.page.specs.Block.{block_in}
 use Rattle.counts.specs.Counts.{occ}
 use Rattle.model.specs.TreeBlocks.{Tree, elem, Change, Change.begin, Change.puts, Change.takes, changed, changed_on, new_blocks, payload, block_of, Stored, Each, Fit}
-use Rattle.tree.proofs.Puts.{five-high}
-use Rattle.tree.proofs.Laid.{same-rule}
+use Rattle.tree.proofs.Puts.{five_high}
+use Rattle.tree.proofs.Laid.{same_rule}
 use Rattle.model.specs.TreeBlocks.{root_of}
 use Rattle.model.specs.Model.{unused, used, free, source, new_tree}
 use Rattle.model.specs.World.{Tables, Mode, Mode.mounted, placed, model_of, shape, FreeWrite, Changed, targets}
 use Rattle.model.proofs.Walks.{Angles, rows_angles}
-use Rattle.model.proofs.TreeLaws.{needed, changed-low}
-use Rattle.model.proofs.Grants.{unused_each, free-each, sizes_parts}
+use Rattle.model.proofs.TreeLaws.{needed, changed_low}
+use Rattle.model.proofs.Grants.{unused_each, free_each, sizes_parts}
 use Rattle.model.proofs.Histories.{Base, keeps_free}
 
 abbrev Ot : Type 0
@@ -201,10 +201,10 @@ on_ops w (y ∷ ys) m d h =
     )
 
 -- a sound tree's blocks have words
-getD-pair : (N : ℕ × ℕ → Type 0) (xs : List (ℕ × ℕ)) (i : ℕ) → Each N xs → i < length xs → N (get_or xs i (0, 0))
-getD-pair N [] i a h = absurd (omega arith)
-getD-pair N (x ∷ xs) zero a h = a.0
-getD-pair N (x ∷ xs) (suc i) a h = getD-pair N xs i a.1 (omega arith)
+get_or_pair : (N : ℕ × ℕ → Type 0) (xs : List (ℕ × ℕ)) (i : ℕ) → Each N xs → i < length xs → N (get_or xs i (0, 0))
+get_or_pair N [] i a h = absurd (omega arith)
+get_or_pair N (x ∷ xs) zero a h = a.0
+get_or_pair N (x ∷ xs) (suc i) a h = get_or_pair N xs i a.1 (omega arith)
 
 next_le : {X : Type 0} (V : ℕ → ℕ → X → Type 0) (hi : ℕ) (es : List (ℕ × X)) → Ascends V hi es → next hi es ≤ hi
 next_le V hi [] a = omega arith
@@ -239,9 +239,9 @@ module _ (n w : ℕ) (small : n ≤ 4096) (wide : 32 ≤ w) where
 
       top : (l hi b : ℕ) → l ≤ 4 → hi ≤ 10000 → (es : List (ℕ × Pay ℕ ℕ l)) → Ascends (Child ℕ ℕ l) hi es → length es ≤ 15 → Every (All ℕ ℕ Inn l) es → Every (Angles l) es → Layout w (block_of l (b, es))
       top l hi b k h es a f i g =
-          record { wide = wide; few = subst (λ z. z ≤ 15) (sym (map_length (payload l) es)) f; low = omega arith; small = λ j q. getD-pair Fits (map_e (payload l) es) j (smalls l hi h es a i g) q }
+          record { wide = wide; few = subst (λ z. z ≤ 15) (sym (map_length (payload l) es)) f; low = omega arith; small = λ j q. get_or_pair Fits (map_e (payload l) es) j (smalls l hi h es a i g) q }
   lay (suc l) hi b k h es a f i g = (
-    record { wide = wide; few = subst (λ z. z ≤ 15) (sym (map_length (payload (suc l)) es)) f; low = omega arith; small = λ j q. getD-pair Fits (map_e (payload (suc l)) es) j (smalls (suc l) hi h es a i g) q },
+    record { wide = wide; few = subst (λ z. z ≤ 15) (sym (map_length (payload (suc l)) es)) f; low = omega arith; small = λ j q. get_or_pair Fits (map_e (payload (suc l)) es) j (smalls (suc l) hi h es a i g) q },
     go (λ hi b. lay l hi b (omega arith)) hi h es a i g,
   )
     where
@@ -254,7 +254,7 @@ module _ (n w : ℕ) (small : n ≤ 4096) (wide : 32 ≤ w) where
 
   pub fit_layouts : (u : Tree) → Fit n u → All ℕ ℕ Lt (suc u.0) u.1
   fit_layouts u F =
-      lay u.0 10000 u.1.0 (five-high ℕ ℕ u.0 u.1 ((same-rule ℕ ℕ u.0 u.1).1 F.laid)) (omega arith) u.1.1 F.laid.1 F.laid.3 F.inside.1 (rows_angles (suc u.0) 0 u.1 F.angles)
+      lay u.0 10000 u.1.0 (five_high ℕ ℕ u.0 u.1 ((same_rule ℕ ℕ u.0 u.1).1 F.laid)) (omega arith) u.1.1 F.laid.1 F.laid.3 F.inside.1 (rows_angles (suc u.0) 0 u.1 F.angles)
 
 -- the free blocks are apart, and unused
 each_at : {Y : Type 0} (N : Y → Type 0) (xs : List Y) (y : Y) → Each N xs → In y xs → N y
@@ -278,12 +278,12 @@ get_or_in [] i h = absurd (omega arith)
 get_or_in (x ∷ xs) zero h = inl refl
 get_or_in (x ∷ xs) (suc i) h = inr (get_or_in xs i (omega arith))
 
-getD-apart : (xs : List ℕ) (i j : ℕ) → Distinct xs → i < length xs → j < length xs → get_or xs i 0 ≡ get_or xs j 0 → i ≡ j
-getD-apart [] i j d h k e = absurd (omega arith)
-getD-apart (x ∷ xs) zero zero d h k e = refl
-getD-apart (x ∷ xs) zero (suc j) d h k e = absurd (d.0 (subst (λ z. In z xs) (sym e) (get_or_in xs j (omega arith))))
-getD-apart (x ∷ xs) (suc i) zero d h k e = absurd (d.0 (subst (λ z. In z xs) e (get_or_in xs i (omega arith))))
-getD-apart (x ∷ xs) (suc i) (suc j) d h k e = ap suc (getD-apart xs i j d.1 (omega arith) (omega arith) e)
+get_or_apart : (xs : List ℕ) (i j : ℕ) → Distinct xs → i < length xs → j < length xs → get_or xs i 0 ≡ get_or xs j 0 → i ≡ j
+get_or_apart [] i j d h k e = absurd (omega arith)
+get_or_apart (x ∷ xs) zero zero d h k e = refl
+get_or_apart (x ∷ xs) zero (suc j) d h k e = absurd (d.0 (subst (λ z. In z xs) (sym e) (get_or_in xs j (omega arith))))
+get_or_apart (x ∷ xs) (suc i) zero d h k e = absurd (d.0 (subst (λ z. In z xs) e (get_or_in xs i (omega arith))))
+get_or_apart (x ∷ xs) (suc i) (suc j) d h k e = ap suc (get_or_apart xs i j d.1 (omega arith) (omega arith) e)
 
 module _ (f : List ℕ) where
   abbrev pick : ℕ → ℕ
@@ -297,12 +297,12 @@ module _ (f : List ℕ) where
   map_apart : (ps : List ℕ) → Distinct ps → ((p : ℕ) → In p ps → p < length f) → Distinct f → Distinct (map pick ps)
   map_apart [] d h a = tt
   map_apart (p ∷ ps) d h a =
-      ((λ q. let z = in_map ps (pick p) q in d.0 (subst (λ y. In y ps) (sym (getD-apart f p z.0 a (h p (inl refl)) (h z.0 (inr z.1)) z.2)) z.1)), map_apart ps d.1 (λ q k. h q (inr k)) a)
+      ((λ q. let z = in_map ps (pick p) q in d.0 (subst (λ y. In y ps) (sym (get_or_apart f p z.0 a (h p (inl refl)) (h z.0 (inr z.1)) z.2)) z.1)), map_apart ps d.1 (λ q k. h q (inr k)) a)
 
-places-low : (l : ℕ) (m : Ot) (es : List (ℕ × Pay Ot ℕ l)) (p : ℕ) → In p (places ℕ (l, (m, es))) → p ≤ 2 * l
-places-low l None es p (inl e) = omega arith
-places-low l None es p (inr h) = let q = below ℕ l es p h in omega arith
-places-low l (Some b) es p h = let q = below ℕ l es p h in omega arith
+places_low : (l : ℕ) (m : Ot) (es : List (ℕ × Pay Ot ℕ l)) (p : ℕ) → In p (places ℕ (l, (m, es))) → p ≤ 2 * l
+places_low l None es p (inl e) = omega arith
+places_low l None es p (inr h) = let q = below ℕ l es p h in omega arith
+places_low l (Some b) es p h = let q = below ℕ l es p h in omega arith
 
 changed_apart : (d : Change ℕ) (t : Tree) → Distinct (places ℕ (changed ℕ d t))
 changed_apart begin t = ((λ z. z), tt)
@@ -339,7 +339,7 @@ module _ (t : Tables) (m : Meaning) (B : Base t m) (n : ℕ) (d : Change ℕ) wh
   Nice b = (2 ≤ b) × (b < blocks_of m) × (T (elem b (used (shape t m))) → ⊥)
 
   free_nice : Each Nice fs
-  free_nice = both fs (free-each (shape t m) (sizes_parts (blocks_of m) m.width B.kept.sized).0) (unused_new (blocks_of m - 2) 2 (used (shape t m)))
+  free_nice = both fs (free_each (shape t m) (sizes_parts (blocks_of m) m.width B.kept.sized).0) (unused_new (blocks_of m - 2) 2 (used (shape t m)))
     where
       both : (xs : List ℕ) → Each (λ x. (2 ≤ x) × (x < blocks_of m)) xs → Each (λ x. T (elem x (used (shape t m))) → ⊥) xs → Each Nice xs
       both [] a b = tt
@@ -353,7 +353,7 @@ module _ (t : Tables) (m : Meaning) (B : Base t m) (n : ℕ) (d : Change ℕ) wh
   unfolding changed_on
   met room F ready =
       let r : tree.Root Ot ℕ = changed ℕ d src in
-      let low : (p : ℕ) → In p (places ℕ r) → p < length fs = λ p h. (let q = places-low r.0 r.1.0 r.1.1 p h in let k = changed-low ℕ d src in omega arith) in
+      let low : (p : ℕ) → In p (places ℕ r) → p < length fs = λ p h. (let q = places_low r.0 r.1.0 r.1.1 p h in let k = changed_low ℕ d src in omega arith) in
       let apart : Distinct (firsts_of ys) = subst Distinct (sym firsts_are) (map_apart fs (places ℕ r) (changed_apart d src) low (unused_apart (blocks_of m - 2) 2 (used (shape t m)))) in
       let nice : Each Nice (firsts_of ys)
       = subst (Each Nice) (sym firsts_are) (each_in Nice (new_blocks d fs src) (λ b h. let z = in_map fs (places ℕ r) b h in subst Nice (sym z.2) (each_at Nice fs (get_or fs z.0 0) free_nice (get_or_in fs z.0 (low z.0 z.1))))) in

@@ -102,9 +102,9 @@ module _ (c : ℕ → Content) (h : ℕ → ℕ) where
           ⊎_elim (λ v. elem_left b A B (ih e.1 a.0 x b v k)) (λ v. elem_right b A B (go ih r a.1 v)) (elem_cases x A B u)
 
   -- tables
-  root-here : (r : Root) → T (elem r.1 (reach (tree_at c r)))
+  root_here : (r : Root) → T (elem r.1 (reach (tree_at c r)))
   unfolding tree_at
-  root-here r = elem_here r.1 (flat (λ k x. Marks ℕ ℕ (top_level r.0) x) (tree_at c r).1.1)
+  root_here r = elem_here r.1 (flat (λ k x. Marks ℕ ℕ (top_level r.0) x) (tree_at c r).1.1)
 
   root_is : (r : Root) → (tree_at c r).1.0 ≡ r.1
   unfolding tree_at
@@ -134,7 +134,7 @@ module _ (c : ℕ → Content) (h : ℕ → ℕ) where
   table_roots : (t : Table) (b : ℕ) → In b (roots_of t) → T (elem b (Reaches c t))
   table_roots [] b i = absurd i
   table_roots (None ∷ t) b i = table_roots t b i
-  table_roots (Some r ∷ t) b (inl e) = elem_left b (reach (form (tree_at c r))) (Reaches c t) (to_form r b (subst (λ z. T (elem z (reach (tree_at c r)))) (sym e) (root-here r)))
+  table_roots (Some r ∷ t) b (inl e) = elem_left b (reach (form (tree_at c r))) (Reaches c t) (to_form r b (subst (λ z. T (elem z (reach (tree_at c r)))) (sym e) (root_here r)))
   table_roots (Some r ∷ t) b (inr i) = elem_right b (reach (form (tree_at c r))) (Reaches c t) (table_roots t b i)
 
 module _ (t : Tables) (m : Meaning) (S : Standing t m) where

@@ -4,7 +4,7 @@ use mathlib.Core.Path.{fun_ext}
 use Rattle.std.specs.Option.{option_or}
 use Rattle.device.specs.Meaning.{Content, Content.words, Cell, Meaning, blocks_of, current_at, flushed_cell, written_cell, written, flushed, no_cell, spent}
 use Rattle.device.specs.Cuts.{Op, Op.write, Op.flush, Choice, Choice.old, Choice.new, Choice.other, Cutting, apply, replay, cut, cut_cell, remains, cell_at}
-use Rattle.device.proofs.Choices.{cut_at, cut_blocks, flush-at, write_at, write_off, blocks_apply, blocks_replay, width_replay}
+use Rattle.device.proofs.Choices.{cut_at, cut_blocks, flush_at, write_at, write_off, blocks_apply, blocks_replay, width_replay}
 use Rattle.page.specs.Slot.{Root, Table, slot_words, slot_read, SlotFits, every, rooted}
 use Rattle.model.specs.declared.refusal.Refusal.{Refusal}
 use Rattle.model.specs.Plain as plain
@@ -14,12 +14,12 @@ use Rattle.model.specs.TreeBlocks.{Tree, Form, Change, Change.begin, Change.puts
 use Rattle.tree.specs.Node.{ins, del}
 use Rattle.tree.specs.Reads.{look}
 use Rattle.model.proofs.TreeLaws.{keys_form}
-use Rattle.model.proofs.Places.{form_of?, rows_of?, forms_place, maps_place, form-at}
-use Rattle.model.proofs.Grants.{create-rows, put_rows, remove-rows}
+use Rattle.model.proofs.Places.{form_of?, rows_of?, forms_place, maps_place, form_at_lem}
+use Rattle.model.proofs.Grants.{create_rows, put_rows, remove_rows}
 use Rattle.model.specs.Model.{Trees, Model, maps_of, forms, shape_of, free, form_at, holds, late, refusal, tree_of, source, new_tree, standing, with_change, after, next, reply, broken, landed, cut_model}
 use Rattle.model.specs.World.{Mode, Mode.mounted, Mode.sealed, Mode.down, Event, Event.did, Event.broke, Event.lost, Run, Formatted, Step, found, bare, model_of, trees, shape, Tables, FreeWrite, Changed, Effect, Quiet}
 use Rattle.model.specs.Right.{Outcome, fed, plain_of, Shows, Takes, Right, Ends, Onward, OneRun, Histories}
-use Rattle.model.proofs.Histories.{Base, Fine, step_fine, broke_fine, idle-cut, formatted-fine, fine_table}
+use Rattle.model.proofs.Histories.{Base, Fine, step_fine, broke_fine, idle_cut, formatted_fine, fine_table}
 use Rattle.model.proofs.TwoRuns.{two_runs}
 
 abbrev plain_m : Model → Plain
@@ -48,9 +48,9 @@ map_at_lem M n = ap (λ o. elim o as (λ _. Map) [ Some m ↦ m | None ↦ [] ])
     go None = refl
     go (Some x) = refl
 
-find-elem : (s : ℕ) (rs : Map) → elem s (keys rs) ≡ is_some (look s rs)
-find-elem s [] = refl
-find-elem s (r ∷ rs) = go (eqb s r.0) (find-elem s rs)
+find_elem : (s : ℕ) (rs : Map) → elem s (keys rs) ≡ is_some (look s rs)
+find_elem s [] = refl
+find_elem s (r ∷ rs) = go (eqb s r.0) (find_elem s rs)
   where
     go : (k : Bool) → elem s (keys rs) ≡ is_some (look s rs) → (k || elem s (keys rs)) ≡ is_some (cond k (Some r.1) (look s rs))
     go true e = refl
@@ -58,10 +58,10 @@ find-elem s (r ∷ rs) = go (eqb s r.0) (find-elem s rs)
 
 holds_find : (M : Model) (n s : ℕ) → holds (shape_of M) n s ≡ is_some (look s (map_at (maps_of M.working) n))
 holds_find M n s =
-    ap (λ f. elem s (keys_of f)) (sym (form-at M n)) ∙ ap (elem s) (keys_form (tree_of M n)) ∙ find-elem s (rows_of (tree_of M n)) ∙ ap (λ rs. is_some (look s rs)) (sym (map_at_lem M n))
+    ap (λ f. elem s (keys_of f)) (sym (form_at_lem M n)) ∙ ap (elem s) (keys_form (tree_of M n)) ∙ find_elem s (rows_of (tree_of M n)) ∙ ap (λ rs. is_some (look s rs)) (sym (map_at_lem M n))
 
-refusal-same : (M : Model) (q : Ask) → refusal (shape_of M) q ≡ option_or (early (has (maps_of M.working)) q) (late (shape_of M) q)
-refusal-same M q = ap (λ h. option_or (early h q) (late (shape_of M) q)) (has_same M.working)
+refusal_same : (M : Model) (q : Ask) → refusal (shape_of M) q ≡ option_or (early (has (maps_of M.working)) q) (late (shape_of M) q)
+refusal_same M q = ap (λ h. option_or (early h q) (late (shape_of M) q)) (has_same M.working)
 
 abbrev fed_m : Model → Call → Option Refusal
 fed_m M (ask q) = late (shape_of M) q
@@ -83,7 +83,7 @@ plain_removed M n s k (Some a) e h =
     ap (λ x. plain_m (cond x (with_change M n (takes s)) M)) e ∙ plain_grown M n (takes s) (del s (map_at (maps_of M.working) n)) (h e)
 
 plain_after : (q : Ask) (t : Tables) (m : Meaning) → Base t m → refusal (shape t m) q ≡ None → plain_m (after (model_of t m) q) ≡ plain.after (plain_m (model_of t m)) q
-plain_after (create n) t m B no' = plain_grown (model_of t m) n begin [] (create-rows (model_of t m) n)
+plain_after (create n) t m B no' = plain_grown (model_of t m) n begin [] (create_rows (model_of t m) n)
 plain_after (clone f n) t m B no' = let M : Model = model_of t m in ap (working_p (plain_m M)) (maps_set M.working n (place M.working f) ∙ ap (λ x. set (maps_of M.working) n x) (sym (maps_place M.working f)))
 plain_after (delete n) t m B no' = let M : Model = model_of t m in ap (working_p (plain_m M)) (maps_set M.working n None)
 plain_after (put n s a) t m B no' =
@@ -92,15 +92,15 @@ plain_after (put n s a) t m B no' =
 plain_after (remove n s) t m B no' =
     let M : Model = model_of t m in
     plain_removed M n s (holds (shape_of M) n s) (look s (map_at (maps_of M.working) n)) (holds_find M n s)
-    (λ h. remove-rows t m B.kept.sized B.goods n s no' h ∙ ap (del s) (sym (map_at_lem M n)))
+    (λ h. remove_rows t m B.kept.sized B.goods n s no' h ∙ ap (del s) (sym (map_at_lem M n)))
 plain_after (get n s) t m B no' = refl
 plain_after (at n s) t m B no' = refl
 plain_after (rows n s k) t m B no' = refl
 plain_after (summary k n) t m B no' = refl
 plain_after seal t m B no' = refl
 
-plain-ask : (q : Ask) (t : Tables) (m : Meaning) → Base t m → plain_m (next (model_of t m) (ask q)) ≡ plain.next (plain_m (model_of t m)) (ask q) (fed_m (model_of t m) (ask q))
-plain-ask q t m B = go (refusal (shape t m) q) refl ∙ ap (λ o. elim o as (λ _. Plain) [ Some r ↦ plain_m M | None ↦ plain.after (plain_m M) q ]) (refusal-same M q)
+plain_ask : (q : Ask) (t : Tables) (m : Meaning) → Base t m → plain_m (next (model_of t m) (ask q)) ≡ plain.next (plain_m (model_of t m)) (ask q) (fed_m (model_of t m) (ask q))
+plain_ask q t m B = go (refusal (shape t m) q) refl ∙ ap (λ o. elim o as (λ _. Plain) [ Some r ↦ plain_m M | None ↦ plain.after (plain_m M) q ]) (refusal_same M q)
   where
     M : Model
     M = model_of t m
@@ -130,7 +130,7 @@ fine_shows down M m f = fine_table M m f
 
 module _ (V : Type 0) (join : ℕ → Map → V) where
   plain_reply : (c : Call) (M : Model) → reply V join M c ≡ plain.reply V join (plain_m M) c (fed_m M c)
-  plain_reply (ask q) M = ap (λ o. elim o as (λ _. Answer V) [ Some r ↦ refused r | None ↦ answer V join (maps_of M.working) q ]) (refusal-same M q)
+  plain_reply (ask q) M = ap (λ o. elim o as (λ _. Answer V) [ Some r ↦ refused r | None ↦ answer V join (maps_of M.working) q ]) (refusal_same M q)
   plain_reply finish M = refl
   plain_reply reopen M = refl
   plain_reply mount M = refl
@@ -153,7 +153,7 @@ module _ (V : Type 0) (join : ℕ → Map → V) where
 
   plain_next : (w : Mode) (c : Call) (M : Model) (m : Meaning) (a : Answer V) (os : List Op) (w' : Mode) (m' : Meaning) → Fine M w m → Step V join w m c a os w' m' → plain_m (next M c) ≡ plain.next (plain_m M) c (fed_m M c)
   unfolding Fine
-  plain_next (mounted t) (ask q) M m a os w' m' f S = subst (λ (x : Model). plain_m (next x (ask q)) ≡ plain.next (plain_m x) (ask q) (fed_m x (ask q))) f.1 (plain-ask q t m f.0)
+  plain_next (mounted t) (ask q) M m a os w' m' f S = subst (λ (x : Model). plain_m (next x (ask q)) ≡ plain.next (plain_m x) (ask q) (fed_m x (ask q))) f.1 (plain_ask q t m f.0)
   plain_next (mounted t) finish M m a os w' m' f S = refl
   plain_next (mounted t) reopen M m a os w' m' f S = refl
   plain_next (mounted t) mount M m a os w' m' f S = refl
@@ -235,11 +235,11 @@ module _ (V : Type 0) (join : ℕ → Map → V) where
         ),
       )
   right (lost κ ∷ es) p M w m e f R =
-      (subst (λ x. Shows x w m) e (fine_shows w M m f), right es p (cut_model κ M) down (cut κ m) e (idle-cut M κ w m f) R)
+      (subst (λ x. Shows x w m) e (fine_shows w M m f), right es p (cut_model κ M) down (cut κ m) e (idle_cut M κ w m f) R)
 
 pub histories : (V : Type 0) → Histories V
 histories V =
-    ((λ join m es f R. right V join es plain.start (model_of bare m) (mounted bare) m refl (formatted-fine V join m f) R), two_runs V)
+    ((λ join m es f R. right V join es plain.start (model_of bare m) (mounted bare) m refl (formatted_fine V join m f) R), two_runs V)
 
 module _ (V : Type 0) (join : ℕ → Map → V) (w : Mode) (m : Meaning) (c : Call) (a : Answer V) (os : List Op) (w' : Mode) (m' : Meaning) (S : Step V join w m c a os w' m') where
   run_more : (es : List (Event V)) (v : Mode) (d : Meaning) → Run V join v d es → Ends v d es w m → Run V join v d (es ++ did c a os w' m' ∷ [])

@@ -14,13 +14,13 @@ use Rattle.tree.specs.Numbered.{numbered, news, bare, Known}
 use Rattle.tree.proofs.Stores.{all_both, over_tally}
 use Rattle.tree.proofs.Kept.{kept}
 use Rattle.tree.proofs.Over.{natural, over_rows, map_ins, map_del}
-use Rattle.tree.proofs.Laid.{same-rule}
-use Rattle.tree.proofs.Puts.{put-sound}
-use Rattle.tree.proofs.Removes.{remove-sound}
+use Rattle.tree.proofs.Laid.{same_rule}
+use Rattle.tree.proofs.Puts.{put_sound}
+use Rattle.tree.proofs.Removes.{remove_sound}
 use Rattle.tree.proofs.Numbering.{shape_kept, numbers_natural, numbers_from, over_root_twice}
 use Rattle.table.specs.Rows.{off_angle}
 use Rattle.page.specs.Block.{block_in}
-use Rattle.model.specs.TreeBlocks.{Tree, Form, form, bare_tree, raw, angle, rows_of, keys, keys_of, reach, elem, root_of, Change, Change.begin, Change.puts, Change.takes, without_angle, changed, changed_on, writes, entries_in, payAt, top_level, tree_at, payload, block_of, Stored, Each, Fit, Good, AllGood}
+use Rattle.model.specs.TreeBlocks.{Tree, Form, form, bare_tree, raw, angle, rows_of, keys, keys_of, reach, elem, root_of, Change, Change.begin, Change.puts, Change.takes, without_angle, changed, changed_on, writes, entries_in, pay_at, top_level, tree_at, payload, block_of, Stored, Each, Fit, Good, AllGood}
 
 -- membership
 pub elem_left : (b : ℕ) (xs ys : List ℕ) → T (elem b xs) → T (elem b (xs ++ ys))
@@ -63,20 +63,20 @@ elem_head b x xs h = go (eqb b x) refl h
 
 -- the tree of a root goes by its own blocks alone
 module _ (c d : ℕ → Content) where
-  pay_same : (l p : ℕ) → ((b : ℕ) → T (elem b (Marks ℕ ℕ l (payAt c l p))) → d b ≡ c b) → payAt d l p ≡ payAt c l p
+  pay_same : (l p : ℕ) → ((b : ℕ) → T (elem b (Marks ℕ ℕ l (pay_at c l p))) → d b ≡ c b) → pay_at d l p ≡ pay_at c l p
   pay_same zero p h = refl
   pay_same (suc l) b h =
       let es : List (ℕ × ℕ) = entries_in (block_in (c b)) in
-      let below : List ℕ = flat (λ k x. Marks ℕ ℕ l x) (map_e (payAt c l) es) in
+      let below : List ℕ = flat (λ k x. Marks ℕ ℕ l x) (map_e (pay_at c l) es) in
       ap (λ (x : List (ℕ × Pay ℕ ℕ l)). (b, x))
-      (ap (λ y. map_e (payAt d l) (entries_in (block_in y))) (h b (elem_here b below)) ∙ go (pay_same l) es (λ x q. h x (elem_right x (b ∷ []) below q)))
+      (ap (λ y. map_e (pay_at d l) (entries_in (block_in y))) (h b (elem_here b below)) ∙ go (pay_same l) es (λ x q. h x (elem_right x (b ∷ []) below q)))
     where
-      go : ((p : ℕ) → ((b : ℕ) → T (elem b (Marks ℕ ℕ l (payAt c l p))) → d b ≡ c b) → payAt d l p ≡ payAt c l p)
-          → (es : List (ℕ × ℕ)) → ((x : ℕ) → T (elem x (flat (λ k y. Marks ℕ ℕ l y) (map_e (payAt c l) es))) → d x ≡ c x) → map_e (payAt d l) es ≡ map_e (payAt c l) es
+      go : ((p : ℕ) → ((b : ℕ) → T (elem b (Marks ℕ ℕ l (pay_at c l p))) → d b ≡ c b) → pay_at d l p ≡ pay_at c l p)
+          → (es : List (ℕ × ℕ)) → ((x : ℕ) → T (elem x (flat (λ k y. Marks ℕ ℕ l y) (map_e (pay_at c l) es))) → d x ≡ c x) → map_e (pay_at d l) es ≡ map_e (pay_at c l) es
       go ih [] h = refl
       go ih (e ∷ r) h =
-          let f : List ℕ = Marks ℕ ℕ l (payAt c l e.1) in
-          let g : List ℕ = flat (λ k y. Marks ℕ ℕ l y) (map_e (payAt c l) r) in
+          let f : List ℕ = Marks ℕ ℕ l (pay_at c l e.1) in
+          let g : List ℕ = flat (λ k y. Marks ℕ ℕ l y) (map_e (pay_at c l) r) in
           ap₂ (λ (x : Pay ℕ ℕ l) (y : List (ℕ × Pay ℕ ℕ l)). (e.0, x) ∷ y) (ih e.1 (λ x q. h x (elem_left x f g q))) (go ih r (λ x q. h x (elem_right x f g q)))
 
   pub tree_same : (r : Root) → ((b : ℕ) → T (elem b (reach (tree_at c r))) → d b ≡ c b) → tree_at d r ≡ tree_at c r
@@ -88,12 +88,12 @@ module _ (c : ℕ → Content) where
   abbrev St : (l : ℕ) → tree.Tree ℕ ℕ l → Type 0
   St l u = block_in (c u.0) ≡ Some (block_of l u)
 
-  pub pay_stored : (l : ℕ) (p : Pay ℕ ℕ l) → All ℕ ℕ St l p → payAt c l (payload l p) ≡ p
+  pub pay_stored : (l : ℕ) (p : Pay ℕ ℕ l) → All ℕ ℕ St l p → pay_at c l (payload l p) ≡ p
   pay_stored zero p a = refl
   pay_stored (suc l) t a =
-      ap (λ (x : List (ℕ × Pay ℕ ℕ l)). (t.0, x)) (ap (λ y. map_e (payAt c l) (entries_in y)) a.0 ∙ go (pay_stored l) t.1 a.1)
+      ap (λ (x : List (ℕ × Pay ℕ ℕ l)). (t.0, x)) (ap (λ y. map_e (pay_at c l) (entries_in y)) a.0 ∙ go (pay_stored l) t.1 a.1)
     where
-      go : ((p : Pay ℕ ℕ l) → All ℕ ℕ St l p → payAt c l (payload l p) ≡ p) → (es : List (ℕ × Pay ℕ ℕ l)) → Every (All ℕ ℕ St l) es → map_e (payAt c l) (map_e (payload l) es) ≡ es
+      go : ((p : Pay ℕ ℕ l) → All ℕ ℕ St l p → pay_at c l (payload l p) ≡ p) → (es : List (ℕ × Pay ℕ ℕ l)) → Every (All ℕ ℕ St l) es → map_e (pay_at c l) (map_e (payload l) es) ≡ es
       go ih [] a = refl
       go ih (e ∷ r) a = ap₂ (λ (x : Pay ℕ ℕ l) (y : List (ℕ × Pay ℕ ℕ l)). (e.0, x) ∷ y) (ih e.1 a.0) (go ih r a.1)
 
@@ -132,8 +132,8 @@ good_one n c d r h g =
     let e : tree_at d r ≡ tree_at c r = tree_same c d r h in
     record { height = g.height; stored = subst (Stored d) (sym e) (stored_same c d (tree_at c r) h g.stored); fit = subst (Fit n) (sym e) g.fit }
 
-pub fit-inside : (n : ℕ) (t : Tree) → Fit n t → (b : ℕ) → T (elem b (reach t)) → (2 ≤ b) × (b < n)
-fit-inside n t f b h = all_elem ℕ (λ x. (2 ≤ x) × (x < n)) (suc t.0) t.1 f.inside b h
+pub fit_inside : (n : ℕ) (t : Tree) → Fit n t → (b : ℕ) → T (elem b (reach t)) → (2 ≤ b) × (b < n)
+fit_inside n t f b h = all_elem ℕ (λ x. (2 ≤ x) × (x < n)) (suc t.0) t.1 f.inside b h
 
 -- numbers change no rows and no layout
 map_same : {P : Type 0} (xs : List (ℕ × P)) → map_e same xs ≡ xs
@@ -170,16 +170,16 @@ changed_sound : (d : Change ℕ) (t : Tree) → Allowed d → Wf ℕ ℕ t.0 t.1
 changed_sound begin t h w = ((omega arith, tt, omega arith), refl)
 changed_sound (puts s a) t h w =
     let v = over_rows ℕ ℕ (Option ℕ) ℕ Some same t in
-    let S = put-sound (Option ℕ) ℕ None s a (over_root Some same t) h.0 (v.1 w) in
+    let S = put_sound (Option ℕ) ℕ None s a (over_root Some same t) h.0 (v.1 w) in
     (S.0, S.1 ∙ ap (ins s a) (v.0 ∙ map_same (rows ℕ ℕ t.0 t.1)))
 changed_sound (takes s) t h w =
     let v = over_rows ℕ ℕ (Option ℕ) ℕ Some same t in
-    let S = remove-sound (Option ℕ) ℕ None s (over_root Some same t) h (v.1 w) in
+    let S = remove_sound (Option ℕ) ℕ None s (over_root Some same t) h (v.1 w) in
     (S.0, S.1 ∙ ap (del s) (v.0 ∙ map_same (rows ℕ ℕ t.0 t.1)))
 
-pub grow-wf : (d : Change ℕ) (f : List ℕ) (t : Tree) → Allowed d → Wf ℕ ℕ t.0 t.1 → Wf ℕ ℕ (changed_on ℕ d f t).0 (changed_on ℕ d f t).1
+pub grow_wf : (d : Change ℕ) (f : List ℕ) (t : Tree) → Allowed d → Wf ℕ ℕ t.0 t.1 → Wf ℕ ℕ (changed_on ℕ d f t).0 (changed_on ℕ d f t).1
 unfolding changed_on
-grow-wf d f t h w = number_wf ℕ (λ i. get_or f i 0) (changed ℕ d t) (changed_sound d t h w).0
+grow_wf d f t h w = number_wf ℕ (λ i. get_or f i 0) (changed ℕ d t) (changed_sound d t h w).0
 
 pub grow_rows : (d : Change ℕ) (f : List ℕ) (t : Tree) → Allowed d → Wf ℕ ℕ t.0 t.1 → rows ℕ ℕ (changed_on ℕ d f t).0 (changed_on ℕ d f t).1 ≡ done d (rows ℕ ℕ t.0 t.1)
 unfolding changed_on
@@ -195,9 +195,9 @@ changed_form (takes s) t =
     (natural (Option ℕ) ℕ (Option ℕ) (Unit {0}) same bare None s 0 (over_root Some same t)).1
     ∙ ap (rem_root (Option ℕ) (Unit {0}) None s) (over_root_twice {M = ℕ} {P = ℕ} Some same same bare t ∙ sym (over_root_twice {M = ℕ} {P = ℕ} same bare Some same t))
 
-pub grow-form : (d : Change ℕ) (f : List ℕ) (t : Tree) → form (changed_on ℕ d f t) ≡ changed_on (Unit {0}) (without_angle d) f (form t)
+pub grow_form : (d : Change ℕ) (f : List ℕ) (t : Tree) → form (changed_on ℕ d f t) ≡ changed_on (Unit {0}) (without_angle d) f (form t)
 unfolding changed_on
-grow-form d f t = numbers_natural ℕ (Unit {0}) (λ i. get_or f i 0) bare (changed ℕ d t) ∙ ap (numbered (Unit {0}) (λ i. get_or f i 0)) (changed_form d t)
+grow_form d f t = numbers_natural ℕ (Unit {0}) (λ i. get_or f i 0) bare (changed ℕ d t) ∙ ap (numbered (Unit {0}) (λ i. get_or f i 0)) (changed_form d t)
 
 -- heights
 raise_low : (P : Type 0) (new : Option ℕ) (r : tree.Root (Option ℕ) P) → (raise (Option ℕ) P new r).0 ≤ suc r.0
@@ -218,10 +218,10 @@ needed begin t = 1
 needed (puts s a) t = 2 * suc t.0 + 1
 needed (takes s) t = 2 * suc t.0 + 1
 
-pub changed-low : (P : Type 0) (d : Change P) (t : tree.Root ℕ P) → 2 * (changed P d t).0 < needed d t
-changed-low P begin t = omega arith
-changed-low P (puts s a) t = let q = raise_low P None (over_root Some same t) in omega (arith, q)
-changed-low P (takes s) t = let q = lower_low P t.0 (None, tree.rem_e (Option ℕ) P None s t.0 (over_root Some same t).1.1) in omega (arith, q)
+pub changed_low : (P : Type 0) (d : Change P) (t : tree.Root ℕ P) → 2 * (changed P d t).0 < needed d t
+changed_low P begin t = omega arith
+changed_low P (puts s a) t = let q = raise_low P None (over_root Some same t) in omega (arith, q)
+changed_low P (takes s) t = let q = lower_low P t.0 (None, tree.rem_e (Option ℕ) P None s t.0 (over_root Some same t).1.1) in omega (arith, q)
 
 -- numbers
 module _ (P : Type 0) (N : ℕ → Type 0) where
@@ -251,7 +251,7 @@ module _ (n : ℕ) where
   grow_inside : (d : Change ℕ) (f : List ℕ) (t : Tree) → Each In f → needed d t ≤ length f → All ℕ ℕ (λ i u. In u.0) (suc t.0) t.1 → All ℕ ℕ (λ i u. In u.0) (suc (changed_on ℕ d f t).0) (changed_on ℕ d f t).1
   unfolding changed_on
   grow_inside d f t e h a =
-      numbers_from ℕ (λ i. get_or f i 0) In (changed ℕ d t) (λ i q. get_or_each In f i 0 e (let z = changed-low ℕ d t in omega (arith, z))) (changed_known In d t a)
+      numbers_from ℕ (λ i. get_or f i 0) In (changed ℕ d t) (λ i q. get_or_each In f i 0 e (let z = changed_low ℕ d t in omega (arith, z))) (changed_known In d t a)
 
 -- angles
 ins_each : (s a : ℕ) (rs : List (ℕ × ℕ)) → a ≤ 18000 → Each (λ (r : ℕ × ℕ). r.1 ≤ 18000) rs → Each (λ (r : ℕ × ℕ). r.1 ≤ 18000) (ins s a rs)
@@ -269,11 +269,11 @@ done_each (puts s a) rs h e = ins_each s a rs h.1 e
 done_each (takes s) rs h e = del_each s rs e
 
 -- a sound tree stays sound
-pub grow-fit : (n : ℕ) (d : Change ℕ) (f : List ℕ) (t : Tree) → Allowed d → Each (λ b. (2 ≤ b) × (b < n)) f → needed d t ≤ length f → Fit n t → Fit n (changed_on ℕ d f t)
-grow-fit n d f t h e k F =
-    let w = (same-rule ℕ ℕ t.0 t.1).1 F.laid in
+pub grow_fit : (n : ℕ) (d : Change ℕ) (f : List ℕ) (t : Tree) → Allowed d → Each (λ b. (2 ≤ b) × (b < n)) f → needed d t ≤ length f → Fit n t → Fit n (changed_on ℕ d f t)
+grow_fit n d f t h e k F =
+    let w = (same_rule ℕ ℕ t.0 t.1).1 F.laid in
     record {
-      laid = (same-rule ℕ ℕ (changed_on ℕ d f t).0 (changed_on ℕ d f t).1).0 (grow-wf d f t h w);
+      laid = (same_rule ℕ ℕ (changed_on ℕ d f t).0 (changed_on ℕ d f t).1).0 (grow_wf d f t h w);
       inside = grow_inside n d f t e k F.inside;
       angles = subst (Each (λ (r : ℕ × ℕ). r.1 ≤ 18000)) (sym (grow_rows d f t h w)) (done_each d (rows ℕ ℕ t.0 t.1) h F.angles);
     }
@@ -299,13 +299,13 @@ raw_range (pos n) h = let q : n ≤ 9000 = ltb-false 9000 n h in omega arith
 raw_range (negsuc n) h = omega arith
 
 -- keys
-pub keys-map : {X Y : Type 0} (f : X → Y) (rs : List (ℕ × X)) → keys (map_e f rs) ≡ keys rs
-keys-map f [] = refl
-keys-map f (e ∷ r) = ap (λ (z : List ℕ). e.0 ∷ z) (keys-map f r)
+pub keys_map : {X Y : Type 0} (f : X → Y) (rs : List (ℕ × X)) → keys (map_e f rs) ≡ keys rs
+keys_map f [] = refl
+keys_map f (e ∷ r) = ap (λ (z : List ℕ). e.0 ∷ z) (keys_map f r)
 
 pub keys_form : (t : Tree) → keys_of (form t) ≡ keys (rows_of t)
 keys_form t =
-    ap keys (over_rows ℕ ℕ ℕ (Unit {0}) same bare t).0 ∙ keys-map bare (rows ℕ ℕ t.0 t.1) ∙ sym (keys-map angle (rows ℕ ℕ t.0 t.1))
+    ap keys (over_rows ℕ ℕ ℕ (Unit {0}) same bare t).0 ∙ keys_map bare (rows ℕ ℕ t.0 t.1) ∙ sym (keys_map angle (rows ℕ ℕ t.0 t.1))
 
 -- blocks
 module _ {P P' : Type 0} (f : P → P') where

@@ -3,7 +3,7 @@ use Rattle.std.proofs.Common.{◌≡◌, ℕ, zero, suc, ◌%◌, Bool, true, fa
 use Rattle.std.specs.Option.{option_or}
 use Rattle.device.specs.Meaning.{Content, Content.words, Cell, Meaning, blocks_of, current_at, flushed_cell, written_cell, written, flushed, no_cell, spent}
 use Rattle.device.specs.Cuts.{Op, Op.write, Op.flush, Choice, Choice.old, Choice.new, Choice.other, Cutting, apply, replay, cut, cut_cell, remains, cell_at}
-use Rattle.device.proofs.Choices.{cut_at, cut_blocks, flush-at, write_at, write_off, blocks_apply, blocks_replay, width_replay}
+use Rattle.device.proofs.Choices.{cut_at, cut_blocks, flush_at, write_at, write_off, blocks_apply, blocks_replay, width_replay}
 use Rattle.page.specs.Slot.{Root, Table, slot_words, slot_read, SlotFits, every, rooted}
 use Rattle.table.specs.Rows.{off_angle}
 use Rattle.table.specs.Angles.{angle_at}
@@ -12,14 +12,14 @@ use Rattle.model.specs.declared.refusal.Refusal.TheVariants.{Number, Speed, Angl
 use Rattle.model.specs.Plain.{Map, Maps, place, has, first, early, map_at, answer, Ask, Call, Answer}
 use Rattle.model.specs.Plain.{Ask.create, Ask.clone, Ask.delete, Ask.put, Ask.remove, Ask.get, Ask.at, Ask.rows, Ask.summary, Ask.seal, Call.ask, Call.finish, Call.reopen, Call.mount, Answer.done, Answer.refused}
 use Rattle.model.specs.TreeBlocks.{Tree, Form, Change, Change.begin, Change.puts, Change.takes, without_angle, form, bare_tree, raw, root_of, changed_on, writes}
-use Rattle.model.proofs.Places.{form_of?, rows_of?, forms_place, maps_place, forms_set, form-at}
-use Rattle.model.proofs.TreeLaws.{grow-form}
+use Rattle.model.proofs.Places.{form_of?, rows_of?, forms_place, maps_place, forms_set, form_at_lem}
+use Rattle.model.proofs.TreeLaws.{grow_form}
 use Rattle.tree.specs.Reads.{look}
 use Rattle.model.specs.Model.{Trees, Forms, Model, Shapes, forms, maps_of, shape_of, free, form_at, holds, late, refusal, left_after, tree_of, source, new_tree, writes_for, standing, with_change, after, next, reply, finished, cut_model, landed, broken, working≔}
 use Rattle.model.specs.World.{Mode, Mode.mounted, Mode.down, Event, Run, Formatted, found, bare, model_of}
 use Rattle.model.specs.TwoRuns as tw
-use Rattle.model.specs.TwoRuns.{Both, Both.alike, one, two, Legal, Twin, legal, Marks, clear, finished_marks, touched, same_angle, mark_ask, marked, unless, refusalIn, Unseen, Remain, Every, Finds, Agree, TwoRuns}
-use Rattle.model.proofs.Histories.{Fine, step_fine, broke_fine, idle-cut, formatted-fine, fine_finds}
+use Rattle.model.specs.TwoRuns.{Both, Both.alike, one, two, Legal, Twin, legal, Marks, clear, finished_marks, touched, same_angle, mark_ask, marked, unless, refusal_in, Unseen, Remain, Every, Finds, Agree, TwoRuns}
+use Rattle.model.proofs.Histories.{Fine, step_fine, broke_fine, idle_cut, formatted_fine, fine_finds}
 
 abbrev Agreeing : {A : Type 0} → List Bool → List (Option A) → List (Option A) → Type 0
 Agreeing [] [] [] = Unit
@@ -54,16 +54,16 @@ module _ {A : Type 0} where
   agreeing_set (b ∷ μ) (x ∷ xs) (y ∷ ys) zero c o p h e = (e, h.1)
   agreeing_set (b ∷ μ) (x ∷ xs) (y ∷ ys) (suc n) c o p h e = (h.0, agreeing_set μ xs ys n c o p h.1 e)
 
-  agreeing-put : (μ : List Bool) (xs ys : List (Option A)) (n : ℕ) (o p : Option A) → Agreeing μ xs ys → (get_or μ n false ≡ false → o ≡ p) → Agreeing μ (set xs n o) (set ys n p)
-  agreeing-put [] [] [] n o p h e = tt
-  agreeing-put [] [] (y ∷ ys) n o p h e = absurd h
-  agreeing-put [] (x ∷ xs) [] n o p h e = absurd h
-  agreeing-put [] (x ∷ xs) (y ∷ ys) n o p h e = absurd h
-  agreeing-put (b ∷ μ) [] [] n o p h e = absurd h
-  agreeing-put (b ∷ μ) [] (y ∷ ys) n o p h e = absurd h
-  agreeing-put (b ∷ μ) (x ∷ xs) [] n o p h e = absurd h
-  agreeing-put (b ∷ μ) (x ∷ xs) (y ∷ ys) zero o p h e = (e, h.1)
-  agreeing-put (b ∷ μ) (x ∷ xs) (y ∷ ys) (suc n) o p h e = (h.0, agreeing-put μ xs ys n o p h.1 e)
+  agreeing_put : (μ : List Bool) (xs ys : List (Option A)) (n : ℕ) (o p : Option A) → Agreeing μ xs ys → (get_or μ n false ≡ false → o ≡ p) → Agreeing μ (set xs n o) (set ys n p)
+  agreeing_put [] [] [] n o p h e = tt
+  agreeing_put [] [] (y ∷ ys) n o p h e = absurd h
+  agreeing_put [] (x ∷ xs) [] n o p h e = absurd h
+  agreeing_put [] (x ∷ xs) (y ∷ ys) n o p h e = absurd h
+  agreeing_put (b ∷ μ) [] [] n o p h e = absurd h
+  agreeing_put (b ∷ μ) [] (y ∷ ys) n o p h e = absurd h
+  agreeing_put (b ∷ μ) (x ∷ xs) [] n o p h e = absurd h
+  agreeing_put (b ∷ μ) (x ∷ xs) (y ∷ ys) zero o p h e = (e, h.1)
+  agreeing_put (b ∷ μ) (x ∷ xs) (y ∷ ys) (suc n) o p h e = (h.0, agreeing_put μ xs ys n o p h.1 e)
 
 -- what a call does to the shape
 abbrev working_s : Shapes → Forms → Shapes
@@ -76,8 +76,8 @@ source_s S n (takes s) = form_at S n
 
 form_source : (M : Model) (n : ℕ) (d : Change ℕ) → form (source M n d) ≡ source_s (shape_of M) n d
 form_source M n begin = refl
-form_source M n (puts s a) = form-at M n
-form_source M n (takes s) = form-at M n
+form_source M n (puts s a) = form_at_lem M n
+form_source M n (takes s) = form_at_lem M n
 
 record Rel (μ : Marks) (M N : Model) : Type 0 where
   shapes : shape_of M ≡ shape_of N
@@ -104,7 +104,7 @@ shape_grown M n d =
     let f : List ℕ = free S in
     let t : Tree = source M n d in
     let e : form_of? (standing (new_tree M n d)) ≡ stands (changed_on (Unit {0}) (without_angle d) f (source_s S n d))
-    = ap stands (grow-form d f t) ∙ ap (λ x. stands (changed_on (Unit {0}) (without_angle d) f x)) (form_source M n d) in
+    = ap stands (grow_form d f t) ∙ ap (λ x. stands (changed_on (Unit {0}) (without_angle d) f x)) (form_source M n d) in
     let ew : forms (set M.working n (standing (new_tree M n d))) ≡ set (forms M.working) n (stands (changed_on (Unit {0}) (without_angle d) f (source_s S n d)))
     = forms_set M.working n (standing (new_tree M n d)) ∙ ap (λ x. set (forms M.working) n x) e in
     λ i. record {
@@ -136,7 +136,7 @@ grown_shapes M N n d e q es = shape_grown M n d ∙ ap (λ S. bent S n d) es ∙
 rel_put : (d : Change ℕ) (μ : Marks) (M N : Model) (n : ℕ) → Rel μ M N → Rel μ (with_change M n d) (with_change N n d)
 rel_put d μ M N n R = record {
   shapes = grown_shapes M N n d d refl R.shapes;
-  working = agreeing-put μ.working M.working N.working n _ _ R.working
+  working = agreeing_put μ.working M.working N.working n _ _ R.working
       (λ z. grow_same d M N n R.shapes (source_same d M N n (agreeing_at μ.working M.working N.working n R.working z)));
   committed = R.committed;
   counts = R.counts;
@@ -218,16 +218,16 @@ same_angle_lem (negsuc a) (negsuc b) e = ap negsuc (eqb→eq a b (subst T (sym e
 same_angle_lem (pos a) (negsuc b) e = absurd (subst T (sym e) tt)
 same_angle_lem (negsuc a) (pos b) e = absurd (subst T (sym e) tt)
 
-or-false : (k l : Bool) → (not k || l) ≡ false → (k ≡ true) × (l ≡ false)
-or-false true l e = (refl, e)
-or-false false l e = absurd (subst T e tt)
+or_false : (k l : Bool) → (not k || l) ≡ false → (k ≡ true) × (l ≡ false)
+or_false true l e = (refl, e)
+or_false false l e = absurd (subst T e tt)
 
 -- a put of two angles
 rel_puts : (μ : Marks) (M N : Model) (n s : ℕ) (a b : ℤ) → Rel μ M N → Rel (marked μ (tw.puts n s a b)) (with_change M n (puts s (raw a))) (with_change N n (puts s (raw b)))
 rel_puts μ M N n s a b R = record {
   shapes = grown_shapes M N n (puts s (raw a)) (puts s (raw b)) refl R.shapes;
   working = agreeing_set μ.working M.working N.working n (not (same_angle a b) || touched μ n) _ _ R.working
-      (λ z. let h = or-false (same_angle a b) (touched μ n) z in
+      (λ z. let h = or_false (same_angle a b) (touched μ n) z in
       grow_same (puts s (raw a)) M N n R.shapes (tree_same M N n (agreeing_at μ.working M.working N.working n R.working h.1))
       ∙ ap (λ x. standing (changed_on ℕ (puts s (raw x)) (free (shape_of N)) (tree_of N n))) (same_angle_lem a b h.0));
   committed = R.committed;
@@ -235,8 +235,8 @@ rel_puts μ M N n s a b R = record {
 }
 
 -- both runs refuse alike
-put-refusals : (S : Shapes) (n s : ℕ) (a b : ℤ) → off_angle a ≡ false → off_angle b ≡ false → refusal S (put n s a) ≡ refusal S (put n s b)
-put-refusals S n s a b ha hb =
+put_refusals : (S : Shapes) (n s : ℕ) (a b : ℤ) → off_angle a ≡ false → off_angle b ≡ false → refusal S (put n s a) ≡ refusal S (put n s b)
+put_refusals S n s a b ha hb =
     ap (λ k. option_or (first ((ltb 23 n, Number) ∷ (ltb 9999 s, Speed) ∷ (k, Angle) ∷ (not (has S.working n), Absent) ∷ [])) (late S (put n s a))) (ha ∙ sym hb)
 
 agreeing_refl : (k : ℕ) → Agreeing {A = Root × Tree} (lib.ListN.replicate k false) (lib.ListN.replicate k None) (lib.ListN.replicate k None)
@@ -266,9 +266,9 @@ module _ (V : Type 0) (join : ℕ → Map → V) where
   accepted seal ms μ ν = refl
 
   -- refused in both runs, or accepted in both
-  rel-either : (o p : Option Refusal) (μ ν : Marks) (a : Answer V) (M N M' N' : Model) → o ≡ p → unless a μ ν ≡ ν → Rel μ M N → Rel ν M' N'
+  rel_either : (o p : Option Refusal) (μ ν : Marks) (a : Answer V) (M N M' N' : Model) → o ≡ p → unless a μ ν ≡ ν → Rel μ M N → Rel ν M' N'
       → Rel (unless (by_refusal o a) μ ν) (by_model o M M') (by_model p N N')
-  rel-either o p μ ν a M N M' N' e ea R R' = subst (λ x. Rel (unless (by_refusal o a) μ ν) (by_model o M M') (by_model x N N')) e (go o)
+  rel_either o p μ ν a M N M' N' e ea R R' = subst (λ x. Rel (unless (by_refusal o a) μ ν) (by_model o M M') (by_model x N N')) e (go o)
     where
       go : (o : Option Refusal) → Rel (unless (by_refusal o a) μ ν) (by_model o M M') (by_model o N N')
       go (Some r) = R
@@ -277,14 +277,14 @@ module _ (V : Type 0) (join : ℕ → Map → V) where
   rel_next : (x : Both) (μ : Marks) (M N : Model) → Legal x → Rel μ M N
       → Rel (unless (reply V join M (one x)) μ (marked μ x)) (next M (one x)) (next N (two x))
   rel_next (alike (ask q)) μ M N h R =
-      rel-either (refusal (shape_of M) q) (refusal (shape_of N) q) μ (mark_ask μ q) (answers M q) M N (after M q) (after N q)
+      rel_either (refusal (shape_of M) q) (refusal (shape_of N) q) μ (mark_ask μ q) (answers M q) M N (after M q) (after N q)
       (ap (λ S. refusal S q) R.shapes) (accepted q (maps_of M.working) μ (mark_ask μ q)) R (rel_ask q μ M N R)
   rel_next (alike finish) μ M N h R = rel_finished μ M N R
   rel_next (alike reopen) μ M N h R = R
   rel_next (alike mount) μ M N h R = rel_mounted μ M N R
   rel_next (tw.puts n s a b) μ M N h R =
-      rel-either (refusal (shape_of M) (put n s a)) (refusal (shape_of N) (put n s b)) μ (marked μ (tw.puts n s a b)) done M N (after M (put n s a)) (after N (put n s b))
-      (ap (λ S. refusal S (put n s a)) R.shapes ∙ put-refusals (shape_of N) n s a b h.0 h.1) refl R (rel_puts μ M N n s a b R)
+      rel_either (refusal (shape_of M) (put n s a)) (refusal (shape_of N) (put n s b)) μ (marked μ (tw.puts n s a b)) done M N (after M (put n s a)) (after N (put n s b))
+      (ap (λ S. refusal S (put n s a)) R.shapes ∙ put_refusals (shape_of N) n s a b h.0 h.1) refl R (rel_puts μ M N n s a b R)
 
   -- the answers
   map_same : (μ : Marks) (M N : Model) (n : ℕ) → Rel μ M N → touched μ n ≡ false → map_at (maps_of M.working) n ≡ map_at (maps_of N.working) n
@@ -311,10 +311,10 @@ module _ (V : Type 0) (join : ℕ → Map → V) where
   same_reply (alike reopen) μ M N l R h = refl
   same_reply (alike mount) μ M N l R h = refl
   same_reply (tw.puts n s a b) μ M N l R h =
-      ap (λ o. by_refusal o done) (ap (λ S. refusal S (put n s a)) R.shapes ∙ put-refusals (shape_of N) n s a b l.0 l.1)
+      ap (λ o. by_refusal o done) (ap (λ S. refusal S (put n s a)) R.shapes ∙ put_refusals (shape_of N) n s a b l.0 l.1)
 
   -- both runs refuse alike, whatever is touched
-  passes : (q : Ask) (ms : Maps) → refusalIn (answer V join ms q) ≡ None
+  passes : (q : Ask) (ms : Maps) → refusal_in (answer V join ms q) ≡ None
   passes (create n) ms = refl
   passes (clone f n) ms = refl
   passes (delete n) ms = refl
@@ -326,20 +326,20 @@ module _ (V : Type 0) (join : ℕ → Map → V) where
   passes (summary k n) ms = refl
   passes seal ms = refl
 
-  refusal-reply : (M : Model) (q : Ask) → refusalIn (reply V join M (ask q)) ≡ refusal (shape_of M) q
-  refusal-reply M q = go (refusal (shape_of M) q)
+  refusal_reply : (M : Model) (q : Ask) → refusal_in (reply V join M (ask q)) ≡ refusal (shape_of M) q
+  refusal_reply M q = go (refusal (shape_of M) q)
     where
-      go : (o : Option Refusal) → refusalIn (by_refusal o (answers M q)) ≡ o
+      go : (o : Option Refusal) → refusal_in (by_refusal o (answers M q)) ≡ o
       go (Some r) = refl
       go None = passes q (maps_of M.working)
 
-  same_refusal : (x : Both) (μ : Marks) (M N : Model) → Legal x → Rel μ M N → refusalIn (reply V join M (one x)) ≡ refusalIn (reply V join N (two x))
-  same_refusal (alike (ask q)) μ M N l R = refusal-reply M q ∙ ap (λ S. refusal S q) R.shapes ∙ sym (refusal-reply N q)
+  same_refusal : (x : Both) (μ : Marks) (M N : Model) → Legal x → Rel μ M N → refusal_in (reply V join M (one x)) ≡ refusal_in (reply V join N (two x))
+  same_refusal (alike (ask q)) μ M N l R = refusal_reply M q ∙ ap (λ S. refusal S q) R.shapes ∙ sym (refusal_reply N q)
   same_refusal (alike finish) μ M N l R = refl
   same_refusal (alike reopen) μ M N l R = refl
   same_refusal (alike mount) μ M N l R = refl
   same_refusal (tw.puts n s a b) μ M N l R =
-      refusal-reply M (put n s a) ∙ ap (λ S. refusal S (put n s a)) R.shapes ∙ put-refusals (shape_of N) n s a b l.0 l.1 ∙ sym (refusal-reply N (put n s b))
+      refusal_reply M (put n s a) ∙ ap (λ S. refusal S (put n s a)) R.shapes ∙ put_refusals (shape_of N) n s a b l.0 l.1 ∙ sym (refusal_reply N (put n s b))
 
   -- the cuts
   rel_landed : (k : Choice) (μ : Marks) (M N : Model) → Rel μ M N → (ν : Marks) × ((ν ≡ μ) ⊎ (ν ≡ finished_marks μ)) × Rel ν (landed k M) (landed k N)
@@ -365,7 +365,7 @@ module _ (V : Type 0) (join : ℕ → Map → V) where
       let s₂ = step_fine V join w₂ (two x) N m₂ a₂ os₂ v₂ n₂ f₂ r₂.0 in
       let R' : Rel (unless a μ (marked μ x)) (next M (one x)) (next N (two x))
       = subst (λ y. Rel (unless y μ (marked μ x)) (next M (one x)) (next N (two x))) (sym s.0) (rel_next x μ M N l.0 R) in (
-        ap refusalIn s.0 ∙ same_refusal x μ M N l.0 R ∙ ap refusalIn (sym s₂.0),
+        ap refusal_in s.0 ∙ same_refusal x μ M N l.0 R ∙ ap refusal_in (sym s₂.0),
         (λ h. s.0 ∙ same_reply x μ M N l.0 R h ∙ sym s₂.0),
         agree ts (unless a μ (marked μ x)) (next M (one x)) (next N (two x)) v n v₂ n₂ s.1 s₂.1 R' l.1 r.1 r₂.1,
       )
@@ -381,15 +381,15 @@ module _ (V : Type 0) (join : ℕ → Map → V) where
       let g : Finds V d ν.generation = subst (λ g. Finds V d g) (sym b.2.counts) (fine_finds M' d s) in
       (ν, b.1, g, agree ts ν M' N' down d down d₂ s s₂ (rel_cut κ ν (broken M (one x) k κ) (broken N (two x) k κ) b.2) l.1 r.1 r₂.1)
   agree (tw.lost κ ∷ ts) μ M N w m w₂ m₂ f f₂ R l r r₂ =
-      agree ts μ (cut_model κ M) (cut_model κ N) down (cut κ m) down (cut κ m₂) (idle-cut M κ w m f) (idle-cut N κ w₂ m₂ f₂) (rel_cut κ μ M N R) l.1 r r₂
+      agree ts μ (cut_model κ M) (cut_model κ N) down (cut κ m) down (cut κ m₂) (idle_cut M κ w m f) (idle_cut N κ w₂ m₂ f₂) (rel_cut κ μ M N R) l.1 r r₂
 
-  clear-rel : (m : Meaning) → Rel clear (model_of bare m) (model_of bare m)
-  clear-rel m = record { shapes = refl; working = blanks; committed = blanks; counts = refl }
+  clear_rel : (m : Meaning) → Rel clear (model_of bare m) (model_of bare m)
+  clear_rel m = record { shapes = refl; working = blanks; committed = blanks; counts = refl }
     where
       blanks : Agreeing clear.working (model_of bare m).working (model_of bare m).working
       blanks = agreeing_refl 24
 
 pub two_runs : (V : Type 0) → TwoRuns V
 two_runs V join m ts f l r r₂ =
-    let g = formatted-fine V join m f in
-    agree V join ts clear (model_of bare m) (model_of bare m) (mounted bare) m (mounted bare) m g g (clear-rel V join m) l r r₂
+    let g = formatted_fine V join m f in
+    agree V join ts clear (model_of bare m) (model_of bare m) (mounted bare) m (mounted bare) m g g (clear_rel V join m) l r r₂

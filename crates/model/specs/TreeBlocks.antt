@@ -92,9 +92,9 @@ entries_in None = []
 entries_in (Some b) = b.entries
 
 -- what a payload of a block of level l stands for
-abbrev pub payAt : (ℕ → Content) → (l : ℕ) → ℕ → Pay ℕ ℕ l
-payAt c zero p = p
-payAt c (suc l) b = (b, map_e (payAt c l) (entries_in (block_in (c b))))
+abbrev pub pay_at : (ℕ → Content) → (l : ℕ) → ℕ → Pay ℕ ℕ l
+pay_at c zero p = p
+pay_at c (suc l) b = (b, map_e (pay_at c l) (entries_in (block_in (c b))))
 
 -- the level of a root of this height
 abbrev pub top_level : ℕ → ℕ
@@ -103,7 +103,7 @@ top_level (suc l) = l
 
 -- the tree that a root has on these contents, whatever they are
 unfoldable pub tree_at : (ℕ → Content) → Root → Tree
-tree_at c r = (top_level r.0, payAt c (suc (top_level r.0)) r.1)
+tree_at c r = (top_level r.0, pay_at c (suc (top_level r.0)) r.1)
 
 abbrev pub payload : (l : ℕ) → Pay ℕ ℕ l → ℕ
 payload zero p = p

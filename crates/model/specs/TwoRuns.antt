@@ -100,12 +100,12 @@ unless (listed rs) μ μ' = μ'
 unless (joined v) μ μ' = μ'
 unless (refused r) μ μ' = μ
 
-abbrev pub refusalIn : {V : Type 0} → Answer V → Option Refusal
-refusalIn done = None
-refusalIn (angle o) = None
-refusalIn (listed rs) = None
-refusalIn (joined v) = None
-refusalIn (refused r) = Some r
+abbrev pub refusal_in : {V : Type 0} → Answer V → Option Refusal
+refusal_in done = None
+refusal_in (angle o) = None
+refusal_in (listed rs) = None
+refusal_in (joined v) = None
+refusal_in (refused r) = Some r
 
 -- the call shows no touched clone
 abbrev pub Unseen : Marks → Both → Type 0
@@ -143,7 +143,7 @@ module _ (V : Type 0) where
 
   abbrev pub Agree : Marks → Meaning → List (Twin V) → Type 0
   Agree μ m [] = Unit
-  Agree μ m (did x a os w m' a₂ os₂ w₂ m₂ ∷ ts) = (refusalIn a ≡ refusalIn a₂) × (Unseen μ x → a ≡ a₂) × Agree (unless a μ (marked μ x)) m' ts
+  Agree μ m (did x a os w m' a₂ os₂ w₂ m₂ ∷ ts) = (refusal_in a ≡ refusal_in a₂) × (Unseen μ x → a ≡ a₂) × Agree (unless a μ (marked μ x)) m' ts
   Agree μ m (broke x os os₂ k κ ∷ ts) =
       (μ' : Marks) × Remain x μ μ' × Finds (cut κ (replay (take k os) m)) μ'.generation × Agree μ' (cut κ (replay (take k os) m)) ts
   Agree μ m (lost κ ∷ ts) = Agree μ (cut κ m) ts

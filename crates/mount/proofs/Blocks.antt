@@ -32,9 +32,9 @@ module _ (n k l lo hi b : ℕ) (f : List (ℕ × ℕ) → Option Fault) where
   split_content (words ws) = split_block (decode ws)
   split_content (damaged m) = refl
 
-pub split-fault : (m : Meaning) (d : Due) → first_fault m d ≡ option_or (own_fault m d) (fault_below (blocks_of m) (current_at m) d.level d.high (entries_in (block_at m d.block)))
+pub split_fault : (m : Meaning) (d : Due) → first_fault m d ≡ option_or (own_fault m d) (fault_below (blocks_of m) (current_at m) d.level d.high (entries_in (block_at m d.block)))
 unfolding block_at
-split-fault m d = split_content (blocks_of m) d.least d.level d.low d.high d.block (fault_below (blocks_of m) (current_at m) d.level d.high) (current_at m d.block)
+split_fault m d = split_content (blocks_of m) d.least d.level d.low d.high d.block (fault_below (blocks_of m) (current_at m) d.level d.high) (current_at m d.block)
 
 -- a block without fault
 pub record Sound (m : Meaning) (k l lo hi b : ℕ) : Type 0 where
@@ -50,24 +50,24 @@ sound_block m k l lo hi b h =
     record { block = p.0; here = p.1; made = made_parts (blocks_of m) k l lo hi p.0 p.2; below = p.3 }
 
 -- a block that was loaded
-pub loaded-made : (m : Meaning) (d : Due) (p : Page) → Loaded m d p → Made (blocks_of m) d.least d.level d.low d.high (view p)
+pub loaded_made : (m : Meaning) (d : Due) (p : Page) → Loaded m d p → Made (blocks_of m) d.least d.level d.low d.high (view p)
 unfolding block_at
-loaded-made m d p ld =
+loaded_made m d p ld =
     let q = content_part (blocks_of m) d.least d.level d.low d.high d.block (λ es. None) (current_at m d.block) ld.fine in
     let e : ◌≡◌ {A = Option Block} (Some q.0) (Some (view p)) = sym q.1 ∙ ld.here in
     let s : q.0 ≡ view p = cc in
     subst (Made (blocks_of m) d.least d.level d.low d.high) s (made_parts (blocks_of m) d.least d.level d.low d.high q.0 q.2)
 
 -- a tree block has few entries
-few-in : (ws : List ℕ) (x : Block) (b t : Bool) → b ≡ fits (read ws) → cond (b && t) (Some (read ws)) None ≡ Some x → length x.entries ≤ 15
-few-in ws x false t e h = absurd (let z : ◌≡◌ {A = ℕ} 0 1 = cc in omega arith)
-few-in ws x true false e h = absurd (let z : ◌≡◌ {A = ℕ} 0 1 = cc in omega arith)
-few-in ws x true true e h =
+few_in : (ws : List ℕ) (x : Block) (b t : Bool) → b ≡ fits (read ws) → cond (b && t) (Some (read ws)) None ≡ Some x → length x.entries ≤ 15
+few_in ws x false t e h = absurd (let z : ◌≡◌ {A = ℕ} 0 1 = cc in omega arith)
+few_in ws x true false e h = absurd (let z : ◌≡◌ {A = ℕ} 0 1 = cc in omega arith)
+few_in ws x true true e h =
     let q : read ws ≡ x = cc in
     subst (λ (n : Block). length n.entries ≤ 15) q (leb-true (length (read ws).entries) 15 (and_parts (leb (length (read ws).entries) 15) (ltb (read ws).level 5) (sym e)).0)
 
 few_content : (k : Content) (x : Block) → block_in k ≡ Some x → length x.entries ≤ 15
-few_content (words ws) x h = few-in ws x (fits (read ws)) (same ws (encode (length ws) (read ws))) refl h
+few_content (words ws) x h = few_in ws x (fits (read ws)) (same ws (encode (length ws) (read ws))) refl h
 few_content (damaged m) x h = absurd (let z : ◌≡◌ {A = ℕ} 0 1 = cc in omega arith)
 
 pub few : (m : Meaning) (b : ℕ) (x : Block) → block_at m b ≡ Some x → length x.entries ≤ 15
@@ -85,9 +85,9 @@ read_words c m b n buf out r e h p a o =
     let i = reading_at c m b n e h in
     held_words (current_at m b) buf (sym (ap answered i) ∙ sym a ∙ p) ∙ ap words (sym (o ∙ ap (λ s. filled s buf) i))
 
-pub met-ok : (r : Result Unit DeviceFault) (k b : ℕ) → Ok tt ≡ met_at r k b → r ≡ Ok tt
-met-ok (Ok tt) k b h = refl
-met-ok (Err f) k b h = absurd (let z : ◌≡◌ {A = ℕ} 0 1 = cc in omega arith)
+pub met_ok : (r : Result Unit DeviceFault) (k b : ℕ) → Ok tt ≡ met_at r k b → r ≡ Ok tt
+met_ok (Ok tt) k b h = refl
+met_ok (Err f) k b h = absurd (let z : ◌≡◌ {A = ℕ} 0 1 = cc in omega arith)
 
 module _ (m : Meaning) (d : Due) where
   own_of : (out : List ℕ) (o : Option Block) → current_at m d.block ≡ words out → o ≡ decode out → own_fault m d ≡ in_block (blocks_of m) d.least d.level d.low d.high d.block (λ es. None) o

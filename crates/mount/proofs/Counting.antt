@@ -31,8 +31,8 @@ at_zero zero b = refl
 at_zero (suc n) zero = refl
 at_zero (suc n) (suc b) = at_zero n b
 
-pub counting-none : (m : Meaning) (cs : List ℕ) (n : ℕ) → cs ≡ replicate n 0 → n ≡ blocks_of m → Counting m cs []
-counting-none m cs n e k =
+pub counting_none : (m : Meaning) (cs : List ℕ) (n : ℕ) → cs ≡ replicate n 0 → n ≡ blocks_of m → Counting m cs []
+counting_none m cs n e k =
     subst (λ ds. Counting m ds []) (sym e)
     (record {
       long = length-replicate n 0 ∙ k;
@@ -122,8 +122,8 @@ roots_append [] qs = refl
 roots_append (None ∷ ps) qs = roots_append ps qs
 roots_append (Some r ∷ ps) qs = ap (λ xs. r.1 ∷ xs) (roots_append ps qs)
 
-pub roots-more : (ps : Table) (i : ℕ) → i < length ps → roots_of (take (i + 1) ps) ≡ roots_of (take i ps) ++ roots_at (get_or ps i None)
-roots-more ps i h = ap roots_of (take_more ps i None h) ∙ roots_append (take i ps) (get_or ps i None ∷ [])
+pub roots_more : (ps : Table) (i : ℕ) → i < length ps → roots_of (take (i + 1) ps) ≡ roots_of (take i ps) ++ roots_at (get_or ps i None)
+roots_more ps i h = ap roots_of (take_more ps i None h) ∙ roots_append (take i ps) (get_or ps i None ∷ [])
 
 pub roots_few : (i : ℕ) (ps : Table) → length (roots_of (take i ps)) ≤ i
 roots_few zero ps = omega arith

@@ -10,7 +10,7 @@ use Rattle.model.specs.World.{sizes, found, faulty, walked}
 use Rattle.model.proofs.Walks.{walk_exact}
 use Rattle.mount.specs.Counting.{verdict, table_walk}
 use Rattle.mount.specs.Mounts.{current_slot, Kept, MountExact}
-use Rattle.mount.proofs.Slots.{usable_of, usable-to, pair_of, pair_used, used_rooted}
+use Rattle.mount.proofs.Slots.{usable_of, usable_to, pair_of, pair_used, used_rooted}
 
 -- what mount finds, by its parts
 module _ (m : Meaning) where
@@ -74,9 +74,9 @@ mount_exact m x w = (
       record { usable = u; before = p.before; apart = p.apart; this = p.this; that = p.that; trees = all_good m x f.slot f.walk }),
   (λ k.
       let s = pair_used m x (record { before = k.before; apart = k.apart; this = k.this; that = k.that }) in
-      accepts m (usable-to m k.usable) x (sym s) ((walk_exact (blocks_of m) (current_at m) 0 x.1 (used_rooted m x s)).1 k.trees)),
+      accepts m (usable_to m k.usable) x (sym s) ((walk_exact (blocks_of m) (current_at m) 0 x.1 (used_rooted m x s)).1 k.trees)),
 )
 
 -- an image that is refused is off the layout
-pub off-layout : (m : Meaning) (e : Refusal) → Lawful m → found m ≡ Err e → (x : ℕ × Table) → Kept m x → ⊥
-off-layout m e w h x k = absurd (let p : ◌≡◌ {A = Result (ℕ × Table) Refusal} (Err e) (Ok x) = sym h ∙ (mount_exact m x w).1 k in let z : ◌≡◌ {A = ℕ} 0 1 = cc in omega arith)
+pub off_layout : (m : Meaning) (e : Refusal) → Lawful m → found m ≡ Err e → (x : ℕ × Table) → Kept m x → ⊥
+off_layout m e w h x k = absurd (let p : ◌≡◌ {A = Result (ℕ × Table) Refusal} (Err e) (Ok x) = sym h ∙ (mount_exact m x w).1 k in let z : ◌≡◌ {A = ℕ} 0 1 = cc in omega arith)

@@ -32,9 +32,9 @@ starts_index p l lo r h ne = by l ne ∙ sym (ap (starts l lo) (drop_entry p 0 r
     by zero ne = absurd (ne refl)
     by (suc l) ne = refl
 
-pub ascending-step : (p : Page) (hi i : ℕ) (r : Entry) → i < p.len
+pub ascending_step : (p : Page) (hi i : ℕ) (r : Entry) → i < p.len
     → ascending hi (drop i (entries p)) ≡ (ltb (get_or p.items i r).speed (next hi (drop (i + 1) (entries p))) && ascending hi (drop (i + 1) (entries p)))
-ascending-step p hi i r h = ap (ascending hi) (drop_entry p i r h)
+ascending_step p hi i r h = ap (ascending hi) (drop_entry p i r h)
 
 pub payable_step : (p : Page) (n l i : ℕ) (r : Entry) → i < p.len
     → every (payable n l) (drop i (entries p)) ≡ (payable n l ((get_or p.items i r).speed, (get_or p.items i r).value) && every (payable n l) (drop (i + 1) (entries p)))

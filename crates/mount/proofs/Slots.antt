@@ -18,14 +18,14 @@ usable_of m h =
     let c = and_parts (leb 32 m.width) (leb m.width 40) a.1 in
     record { many = leb-true 16 (blocks_of m) b.0; few = leb-true (blocks_of m) 4096 b.1; wide = leb-true 32 m.width c.0; narrow = leb-true m.width 40 c.1 }
 
-pub usable-to : (m : Meaning) → Usable m → sizes (blocks_of m) m.width ≡ true
-usable-to m u =
+pub usable_to : (m : Meaning) → Usable m → sizes (blocks_of m) m.width ≡ true
+usable_to m u =
     and_from (leb 16 (blocks_of m) && leb (blocks_of m) 4096) (leb 32 m.width && leb m.width 40)
     (and_from (leb 16 (blocks_of m)) (leb (blocks_of m) 4096) (le-leb 16 (blocks_of m) u.many) (le-leb (blocks_of m) 4096 u.few))
     (and_from (leb 32 m.width) (leb m.width 40) (le-leb 32 m.width u.wide) (le-leb m.width 40 u.narrow))
 
-pub fits-from : (m : Meaning) (b w : ℕ) → b ≡ blocks_of m → w ≡ m.width → true ≡ sizes b w → sizes (blocks_of m) m.width ≡ true
-fits-from m b w e f h = ap (λ n. sizes n m.width) (sym e) ∙ ap (sizes b) (sym f) ∙ sym h
+pub fits_from : (m : Meaning) (b w : ℕ) → b ≡ blocks_of m → w ≡ m.width → true ≡ sizes b w → sizes (blocks_of m) m.width ≡ true
+fits_from m b w e f h = ap (λ n. sizes n m.width) (sym e) ∙ ap (sizes b) (sym f) ∙ sym h
 
 -- what is read of a slot's words
 some_of : (b : Bool) (x y : ℕ × Table) → cond b (Some x) None ≡ Some y → x ≡ y
@@ -135,11 +135,11 @@ pair_used m x p =
     (cases_eq (x.0 % 2) 0)
 
 -- the roots of the slot that is used are roots
-rooted-in : (n b : ℕ) (k : Content) (x : ℕ × Table) → slot_in n b k ≡ Some x → every (rooted n) x.1 ≡ true
-rooted-in n b (words ws) x h = (slots_exact.0 n b ws x.0 x.1 h).2
-rooted-in n b (damaged k) x h = absurd (let z : ◌≡◌ {A = ℕ} 0 1 = cc in omega arith)
+rooted_in : (n b : ℕ) (k : Content) (x : ℕ × Table) → slot_in n b k ≡ Some x → every (rooted n) x.1 ≡ true
+rooted_in n b (words ws) x h = (slots_exact.0 n b ws x.0 x.1 h).2
+rooted_in n b (damaged k) x h = absurd (let z : ◌≡◌ {A = ℕ} 0 1 = cc in omega arith)
 
 pub used_rooted : (m : Meaning) (x : ℕ × Table) → current_slot m ≡ Some x → every (rooted (blocks_of m)) x.1 ≡ true
 used_rooted m x h =
     let l = later_parts (slot_in (blocks_of m) 0 (current_at m 0)) (slot_in (blocks_of m) 1 (current_at m 1)) x h in
-    ⊎_elim (λ o. rooted-in (blocks_of m) 0 (current_at m 0) x o.0) (λ o. rooted-in (blocks_of m) 1 (current_at m 1) x o.1) l.order
+    ⊎_elim (λ o. rooted_in (blocks_of m) 0 (current_at m 0) x o.0) (λ o. rooted_in (blocks_of m) 1 (current_at m 1) x o.1) l.order

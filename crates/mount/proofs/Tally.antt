@@ -7,7 +7,7 @@ use Rattle.page.specs.Block.{Block, block_at, kids_of, level_of, children}
 use Rattle.page.specs.Slot.{every}
 use Rattle.tree.specs.Layout.{next}
 use Rattle.counts.specs.Counts.{one, occ, live, parents}
-use Rattle.counts.proofs.Parents.{one_same, one_other, live_pos, parents-set}
+use Rattle.counts.proofs.Parents.{one_same, one_other, live_pos, parents_set}
 use Rattle.model.specs.TreeBlocks.{entries_in}
 use Rattle.model.specs.Walk.{payable, fault_below, fault_at}
 use Rattle.model.proofs.Walks.{either_none}
@@ -22,7 +22,7 @@ module _ (g : ℕ → Option Block) (cs : List ℕ) (h owed : ℕ → ℕ) (x : 
   -- it is not the first
   pub count_more : 0 < get_or cs x 0 → Owing g (bumped x cs) h owed
   count_more a b =
-      let step = parents-set (λ y. kids_of (g y)) cs x (get_or cs x 0 + 1) b lt in
+      let step = parents_set (λ y. kids_of (g y)) cs x (get_or cs x 0 + 1) b lt in
       let l1 = live_pos (get_or cs x 0) (occ b (kids_of (g x))) a in
       let l2 = live_pos (get_or cs x 0 + 1) (occ b (kids_of (g x))) (omega arith) in
       ⊎_elim
@@ -32,7 +32,7 @@ module _ (g : ℕ → Option Block) (cs : List ℕ) (h owed : ℕ → ℕ) (x : 
   -- it is the first: those of the children are owed now
   pub count_first : get_or cs x 0 ≡ 0 → Owing g (bumped x cs) h (λ b. occ b (kids_of (g x)) + owed b)
   count_first z b =
-      let step = parents-set (λ y. kids_of (g y)) cs x (get_or cs x 0 + 1) b lt in
+      let step = parents_set (λ y. kids_of (g y)) cs x (get_or cs x 0 + 1) b lt in
       let l1 = ap (λ n. live n (occ b (kids_of (g x)))) z in
       let l2 = live_pos (get_or cs x 0 + 1) (occ b (kids_of (g x))) (omega arith) in
       ⊎_elim
@@ -83,8 +83,8 @@ module _ (m : Meaning) where
         below = λ y p. omega (arith, level_is k (suc l) lo hi b f, kids_level l hi s.block.entries y s.below (subst (λ ks. 0 < occ y ks) some p));
       }
 
-  at-bumped : (cs : List ℕ) (b x : ℕ) → 0 < get_or (bumped b cs) x 0 → (0 < get_or cs x 0) ⊎ (x ≡ b)
-  at-bumped cs b x p = ⊎_elim (λ e. inr e) (λ ne. inl (subst (λ n. 0 < n) (get_or-set_other cs b x (get_or cs b 0 + 1) 0 ne) p)) (cases_eq x b)
+  at_bumped : (cs : List ℕ) (b x : ℕ) → 0 < get_or (bumped b cs) x 0 → (0 < get_or cs x 0) ⊎ (x ≡ b)
+  at_bumped cs b x p = ⊎_elim (λ e. inr e) (λ ne. inl (subst (λ n. 0 < n) (get_or-set_other cs b x (get_or cs b 0 + 1) 0 ne) p)) (cases_eq x b)
 
   abbrev Tallies : ℕ → Type 0
   Tallies l = (k lo hi b : ℕ) (cs : List ℕ) → b < length cs → length cs ≡ blocks_of m → Faultless k l lo hi b → Does m cs (tallied m l b cs) (one b)
@@ -109,7 +109,7 @@ module _ (m : Meaning) where
       → (length (bumped b cs) ≡ length cs) × ((x : ℕ) → 0 < get_or (bumped b cs) x 0 → (0 < get_or cs x 0) ⊎ Fine (block_at m) x)
   bump k l lo hi b cs h f = (
     length-set cs b (get_or cs b 0 + 1),
-    (λ x p. ⊎_elim (λ y. inl y) (λ e. inr (subst (Fine (block_at m)) (sym e) (fine k l lo hi b h f))) (at-bumped cs b x p)),
+    (λ x p. ⊎_elim (λ y. inl y) (λ e. inr (subst (Fine (block_at m)) (sym e) (fine k l lo hi b h f))) (at_bumped cs b x p)),
   )
 
   level_tallies : (l : ℕ) → l < 5 → Tallies l

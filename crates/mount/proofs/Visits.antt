@@ -19,8 +19,8 @@ drop_place s i r h =
     drop_more (map root_of s.places) i None (omega (arith, length-map s.places root_of, s.fits.1))
     ∙ ap (λ p. p ∷ drop (i + 1) (map root_of s.places)) (get_or-map root_of s.places i r None (omega (arith, s.fits.1)))
 
-pub drop-places : (s : Slot) (i : ℕ) → 24 ≤ i → drop i (map root_of s.places) ≡ []
-drop-places s i h = drop_all i (map root_of s.places) (omega (arith, length-map s.places root_of, s.fits.1))
+pub drop_places : (s : Slot) (i : ℕ) → 24 ≤ i → drop i (map root_of s.places) ≡ []
+drop_places s i h = drop_all i (map root_of s.places) (omega (arith, length-map s.places root_of, s.fits.1))
 
 rooted_drop : (n i : ℕ) (ps : Table) → every (rooted n) ps ≡ true → every (rooted n) (drop i ps) ≡ true
 rooted_drop n zero ps h = h
@@ -53,5 +53,5 @@ module _ (m : Meaning) (i : ℕ) (ps rest : Table) (p : Option slots.Root) (z : 
       let e : i + 1 ≡ suc i = omega arith in
       ap (λ j. table_walk m j rest) e ∙ sym (place_on m i p rest k) ∙ sym (ap (table_walk m i) q) ∙ inv
 
-  pub clones-stop : (e : Refusal) → Err e ≡ place_walk m i p → Err e ≡ z
-  clones-stop e k = place_stop m i p rest e k ∙ sym (ap (table_walk m i) q) ∙ inv
+  pub clones_stop : (e : Refusal) → Err e ≡ place_walk m i p → Err e ≡ z
+  clones_stop e k = place_stop m i p rest e k ∙ sym (ap (table_walk m i) q) ∙ inv

@@ -18,7 +18,7 @@ use Rattle.mount.specs.declared.walk.Due.{Due}
 use Rattle.mount.specs.Due.{Usable, own_fault, first_fault, passes, Loaded}
 use Rattle.mount.specs.Tally.{Owing, bumped, along, tallied, kids, Room}
 use Rattle.mount.proofs.Pages.{past}
-use Rattle.mount.proofs.Blocks.{split-fault, loaded-made, few}
+use Rattle.mount.proofs.Blocks.{split_fault, loaded_made, few}
 use Rattle.mount.proofs.Tally.{tallies, count_first}
 
 -- Counts stay small.
@@ -67,10 +67,10 @@ kids_pos : (l : ℕ) (es : List (ℕ × ℕ)) → 0 < l → children l es ≡ ki
 kids_pos zero es h = absurd (omega arith)
 kids_pos (suc l) es h = refl
 
-payable-drop : (n l i : ℕ) (es : List (ℕ × ℕ)) → every (payable n l) es ≡ true → every (payable n l) (drop i es) ≡ true
-payable-drop n l zero es h = h
-payable-drop n l (suc i) [] h = refl
-payable-drop n l (suc i) (e ∷ r) h = payable-drop n l i r (and_parts (payable n l e) (every (payable n l) r) h).1
+payable_drop : (n l i : ℕ) (es : List (ℕ × ℕ)) → every (payable n l) es ≡ true → every (payable n l) (drop i es) ≡ true
+payable_drop n l zero es h = h
+payable_drop n l (suc i) [] h = refl
+payable_drop n l (suc i) (e ∷ r) h = payable_drop n l i r (and_parts (payable n l e) (every (payable n l) r) h).1
 
 payable_in : (n l : ℕ) (e : ℕ × ℕ) → 0 < l → payable n l e ≡ true → e.1 < n
 payable_in n zero e h k = absurd (omega arith)
@@ -82,7 +82,7 @@ child_fault m d = fault_at (blocks_of m) (current_at m) 7 (d.level - 1)
 
 -- the block's own fault is the first
 pub own_first : (m : Meaning) (d : Due) (e : Refusal) → Err e ≡ passes d.clone (own_fault m d) → Err e ≡ passes d.clone (first_fault m d)
-own_first m d e h = passes_stop d.clone (own_fault m d) _ e h ∙ sym (ap (passes d.clone) (split-fault m d))
+own_first m d e h = passes_stop d.clone (own_fault m d) _ e h ∙ sym (ap (passes d.clone) (split_fault m d))
 
 -- At a block that was loaded.
 module _ (m : Meaning) (d : Due) (p : Page) (ld : Loaded m d p) where
@@ -90,11 +90,11 @@ module _ (m : Meaning) (d : Due) (p : Page) (ld : Loaded m d p) where
   entries_here = ap entries_in ld.here
 
   kids_here : 0 < d.level → kids_of (block_at m d.block) ≡ kids (entries p)
-  kids_here h = ap kids_of ld.here ∙ kids_pos p.level (entries p) (omega (arith, (loaded-made m d p ld).level))
+  kids_here h = ap kids_of ld.here ∙ kids_pos p.level (entries p) (omega (arith, (loaded_made m d p ld).level))
 
   first_below : first_fault m d ≡ fault_below (blocks_of m) (current_at m) d.level d.high (entries p)
   first_below =
-      split-fault m d
+      split_fault m d
       ∙ ap (λ o. option_or o (fault_below (blocks_of m) (current_at m) d.level d.high (entries_in (block_at m d.block)))) ld.fine
       ∙ ap (fault_below (blocks_of m) (current_at m) d.level d.high) entries_here
 
@@ -116,16 +116,16 @@ module _ (m : Meaning) (d : Due) (p : Page) (ld : Loaded m d p) where
         modest = r.modest;
       })
 
-  pub child-in : (i s c : ℕ) (rest : List (ℕ × ℕ)) → 0 < d.level → drop i (entries p) ≡ (s, c) ∷ rest → c < blocks_of m
-  child-in i s c rest up e =
-      let o = ap (every (payable (blocks_of m) d.level)) (sym e) ∙ payable-drop (blocks_of m) d.level i (entries p) (loaded-made m d p ld).pays in
+  pub child_in : (i s c : ℕ) (rest : List (ℕ × ℕ)) → 0 < d.level → drop i (entries p) ≡ (s, c) ∷ rest → c < blocks_of m
+  child_in i s c rest up e =
+      let o = ap (every (payable (blocks_of m) d.level)) (sym e) ∙ payable_drop (blocks_of m) d.level i (entries p) (loaded_made m d p ld).pays in
       payable_in (blocks_of m) d.level (s, c) up (and_parts (payable (blocks_of m) d.level (s, c)) (every (payable (blocks_of m) d.level) rest) o).0
 
   -- a child's fault is the first
-  pub child-first : (i s c : ℕ) (rest : List (ℕ × ℕ)) (e : Refusal) → 0 < d.level → drop i (entries p) ≡ (s, c) ∷ rest
+  pub child_first : (i s c : ℕ) (rest : List (ℕ × ℕ)) (e : Refusal) → 0 < d.level → drop i (entries p) ≡ (s, c) ∷ rest
       → among (child_fault m d) d.high (drop i (entries p)) ≡ among (child_fault m d) d.high (entries p)
       → Err e ≡ passes d.clone (child_fault m d s (next d.high rest) c) → Err e ≡ passes d.clone (first_fault m d)
-  child-first i s c rest e up q inv f =
+  child_first i s c rest e up q inv f =
       passes_stop d.clone (child_fault m d s (next d.high rest) c) (among (child_fault m d) d.high rest) e f
       ∙ sym (ap (passes d.clone) (first_among up ∙ sym inv ∙ ap (among (child_fault m d) d.high) q))
 
@@ -156,9 +156,9 @@ module _ (m : Meaning) (d : Due) (p : Page) (ld : Loaded m d p) where
           ∙ ap (λ es. cond (eqb (get_or cs d.block 0) 0) (along (tallied m (d.level - 1)) es (bumped d.block cs)) (bumped d.block cs)) (sym entries_here)
           ∙ sym (split_tally m d.level d.block cs up)
 
-pub meet-length : (b : ℕ) (counting : Bool) (cs ds : List ℕ) → ds ≡ cond counting (bumped b cs) cs → length ds ≡ length cs
-meet-length b true cs ds e = ap length e ∙ length-set cs b (get_or cs b 0 + 1)
-meet-length b false cs ds e = ap length e
+pub meet_length : (b : ℕ) (counting : Bool) (cs ds : List ℕ) → ds ≡ cond counting (bumped b cs) cs → length ds ≡ length cs
+meet_length b true cs ds e = ap length e ∙ length-set cs b (get_or cs b 0 + 1)
+meet_length b false cs ds e = ap length e
 
 -- the next child's reference is due
 pub next_room : (m : Meaning) (cs : List ℕ) (es rest : List (ℕ × ℕ)) (s c : ℕ) → es ≡ (s, c) ∷ rest → Room m cs (kids es) → Room m cs (c ∷ [])
@@ -192,7 +192,7 @@ module _ (m : Meaning) (l s hi c : ℕ) (first : Bool) (cs ds : List ℕ) (low :
         modest = r.modest;
       })
 
-pub along-step : (m : Meaning) (l c s : ℕ) (first : Bool) (cs ds xs : List ℕ) (es rest : List (ℕ × ℕ)) → es ≡ (s, c) ∷ rest → ds ≡ cond first (tallied m l c cs) cs
+pub along_step : (m : Meaning) (l c s : ℕ) (first : Bool) (cs ds xs : List ℕ) (es rest : List (ℕ × ℕ)) → es ≡ (s, c) ∷ rest → ds ≡ cond first (tallied m l c cs) cs
     → cond first (along (tallied m l) es cs) cs ≡ xs → cond first (along (tallied m l) rest ds) ds ≡ xs
-along-step m l c s true cs ds xs es rest e k inv = ap (along (tallied m l) rest) k ∙ sym (ap (λ zs. along (tallied m l) zs cs) e) ∙ inv
-along-step m l c s false cs ds xs es rest e k inv = k ∙ inv
+along_step m l c s true cs ds xs es rest e k inv = ap (along (tallied m l) rest) k ∙ sym (ap (λ zs. along (tallied m l) zs cs) e) ∙ inv
+along_step m l c s false cs ds xs es rest e k inv = k ∙ inv

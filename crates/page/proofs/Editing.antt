@@ -12,8 +12,8 @@ module _ {X Y : Type 0} (f : X → Y) where
       ap (map f) (take-set-lt len items i e h) ∙ map-set f (take len items) i e
       ∙ set_split (map f (take len items)) i (f e) (omega (arith, length-map (take len items) f, length-take-le len items k))
 
-  pub more-edit : (xs ys : List X) (i : ℕ) (e : X) → ys ≡ take i xs ++ e ∷ drop i xs → map f ys ≡ take i (map f xs) ++ f e ∷ drop i (map f xs)
-  more-edit xs ys i e h =
+  pub more_edit : (xs ys : List X) (i : ℕ) (e : X) → ys ≡ take i xs ++ e ∷ drop i xs → map f ys ≡ take i (map f xs) ++ f e ∷ drop i (map f xs)
+  more_edit xs ys i e h =
       ap (map f) h ∙ map-append f (take i xs) (e ∷ drop i xs) ∙ ap₂ (λ (a b : List Y). a ++ f e ∷ b) (sym (take-map f i xs)) (sym (drop-map f i xs))
 
   pub out_edit : (xs ys : List X) (i : ℕ) → ys ≡ take i xs ++ drop (suc i) xs → map f ys ≡ take i (map f xs) ++ drop (suc i) (map f xs)

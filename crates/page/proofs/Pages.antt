@@ -37,8 +37,8 @@ kids_of_lem : (l : ℕ) (es : List (ℕ × ℕ)) → 0 < l → children l es ≡
 kids_of_lem zero es h = absurd (omega arith)
 kids_of_lem (suc l) es h = refl
 
-pub page-kids-length : (p : Page) → 0 < p.level → length (kids_of (Some (view p))) ≡ p.len
-page-kids-length p h = ap length (kids_of_lem p.level (entries p) h) ∙ length-map (entries p) (λ e. e.1) ∙ entries_length p
+pub page_kids_length : (p : Page) → 0 < p.level → length (kids_of (Some (view p))) ≡ p.len
+page_kids_length p h = ap length (kids_of_lem p.level (entries p) h) ∙ length-map (entries p) (λ e. e.1) ∙ entries_length p
 
 pub page_kids_at : (p : Page) (i : ℕ) (r : Entry) → 0 < p.level → i < p.len → get_or (kids_of (Some (view p))) i 0 ≡ (get_or p.items i r).value
 page_kids_at p i r h lt =

@@ -22,8 +22,8 @@ module _ {X : Type 0} where
       ∙ ap (λ ys. take j s ++ carry ∷ old ∷ ys) (untouched s j (j + 1) len carry (omega arith) h)
       ∙ ap (λ ys. take j s ++ carry ∷ ys) (sym (rest s j len old d h (omega arith) (sym e)))
 
-  pub up-end : (s : List X) (carry : X) (j len : ℕ) → len ≤ j → j ≤ len → len < length s → take (len + 1) (set s len carry) ≡ take j s ++ carry ∷ drop j (take len s)
-  up-end s carry j len h k l =
+  pub up_end : (s : List X) (carry : X) (j len : ℕ) → len ≤ j → j ≤ len → len < length s → take (len + 1) (set s len carry) ≡ take j s ++ carry ∷ drop j (take len s)
+  up_end s carry j len h k l =
       let e : len ≡ j = omega arith in
       take_more_set s len carry l
       ∙ ap (λ n. take n s ++ carry ∷ []) e
@@ -38,15 +38,15 @@ module _ {X : Type 0} where
       ∙ ap (λ ys. take (j - 1) s ++ old ∷ ys) (untouched s (j - 1) (j + 1) len old (omega arith) (omega arith))
       ∙ ap (λ ys. take (j - 1) s ++ ys) (sym (rest s j len old d h l (sym e)))
 
-  pub down-end : (s : List X) (j len : ℕ) → len ≤ j → j ≤ len → len ≤ length s → take (len - 1) s ≡ take (j - 1) s ++ drop j (take len s)
-  down-end s j len h k l =
+  pub down_end : (s : List X) (j len : ℕ) → len ≤ j → j ≤ len → len ≤ length s → take (len - 1) s ≡ take (j - 1) s ++ drop j (take len s)
+  down_end s j len h k l =
       let e : len ≡ j = omega arith in
       ap (λ n. take (n - 1) s) e
       ∙ sym (append-nil (take (j - 1) s))
       ∙ ap (λ ys. take (j - 1) s ++ ys) (sym (drop_all j (take len s) (omega (arith, length-take-le len s l))))
 
-  pub down-start : (s : List X) (i len : ℕ) → i < len → take (i + 1 - 1) s ++ drop (i + 1) (take len s) ≡ take i (take len s) ++ drop (suc i) (take len s)
-  down-start s i len h =
+  pub down_start : (s : List X) (i len : ℕ) → i < len → take (i + 1 - 1) s ++ drop (i + 1) (take len s) ≡ take i (take len s) ++ drop (suc i) (take len s)
+  down_start s i len h =
       let e : i + 1 - 1 ≡ i = omega arith in
       ap (λ n. take n s ++ drop (i + 1) (take len s)) e
       ∙ ap (λ xs. xs ++ drop (i + 1) (take len s)) (sym (take-take i len s (omega arith)))

@@ -41,8 +41,8 @@ every_step f g xs i x b h e =
     ∙ ap (λ y. f y && every f (drop (i + 1) (map g xs))) (get_or-map g xs i x (g x) h)
     ∙ ap (λ k. k && every f (drop (i + 1) (map g xs))) (sym e)
 
-pub every-end : {A : Type 0} (f : A → Bool) (xs : List A) (i : ℕ) → length xs ≤ i → every f (drop i xs) ≡ true
-every-end f xs i h = ap (every f) (drop_all i xs h)
+pub every_end : {A : Type 0} (f : A → Bool) (xs : List A) (i : ℕ) → length xs ≤ i → every f (drop i xs) ≡ true
+every_end f xs i h = ap (every f) (drop_all i xs h)
 
 pub every_at : {A : Type 0} (f : A → Bool) (xs : List A) (i : ℕ) (d : A) → every f xs ≡ true → i < length xs → f (get_or xs i d) ≡ true
 every_at f [] i d h l = absurd (omega arith)

@@ -9,9 +9,9 @@ enc_start [] h l = absurd (omega arith)
 enc_start (a ∷ []) h l = absurd (omega arith)
 enc_start (a ∷ b ∷ xs) h l = refl
 
-pub flat-push : (k : ℕ) (es : List (ℕ × ℕ)) (e : ℕ × ℕ) → flat k (es ++ e ∷ []) ≡ flat k es ++ word 3 e.0 ∷ word k e.1 ∷ []
-flat-push k [] e = refl
-flat-push k (x ∷ es) e = ap (λ r. word 3 x.0 ∷ word k x.1 ∷ r) (flat-push k es e)
+pub flat_push : (k : ℕ) (es : List (ℕ × ℕ)) (e : ℕ × ℕ) → flat k (es ++ e ∷ []) ≡ flat k es ++ word 3 e.0 ∷ word k e.1 ∷ []
+flat_push k [] e = refl
+flat_push k (x ∷ es) e = ap (λ r. word 3 x.0 ∷ word k x.1 ∷ r) (flat_push k es e)
 
 pub flat_length : (k : ℕ) (es : List (ℕ × ℕ)) → length (flat k es) ≡ 2 * length es
 flat_length k [] = refl
@@ -27,14 +27,14 @@ two out i a b h =
     ∙ ap (λ xs. xs ++ b ∷ []) (take_more_set out (2 * i + 2) a (omega arith))
     ∙ append_assoc (take (2 * i + 2) out) (a ∷ []) (b ∷ [])
 
-pub enc-step : (out : List ℕ) (k h i : ℕ) (es : List (ℕ × ℕ)) (s v b : ℕ) → 2 * i + 3 < length out → i < length es → get_or es i (0, 0) ≡ (s, v) → b ≡ word k v
+pub enc_step : (out : List ℕ) (k h i : ℕ) (es : List (ℕ × ℕ)) (s v b : ℕ) → 2 * i + 3 < length out → i < length es → get_or es i (0, 0) ≡ (s, v) → b ≡ word k v
     → take (2 * i + 2) out ≡ h ∷ 0 ∷ flat k (take i es)
     → take (2 * (i + 1) + 2) (set (set out (2 * i + 2) (word 3 s)) (2 * i + 3) b) ≡ h ∷ 0 ∷ flat k (take (i + 1) es)
-enc-step out k h i es s v b l lt e eb inv =
+enc_step out k h i es s v b l lt e eb inv =
     two out i (word 3 s) b l
     ∙ ap (λ xs. xs ++ word 3 s ∷ b ∷ []) inv
     ∙ ap (λ y. h ∷ 0 ∷ (flat k (take i es) ++ word 3 s ∷ y ∷ [])) eb
-    ∙ ap (λ r. h ∷ 0 ∷ r) (sym (ap (flat k) (take_more es i (0, 0) lt ∙ ap (λ p. take i es ++ p ∷ []) e) ∙ flat-push k (take i es) (s, v)))
+    ∙ ap (λ r. h ∷ 0 ∷ r) (sym (ap (flat k) (take_more es i (0, 0) lt ∙ ap (λ p. take i es ++ p ∷ []) e) ∙ flat_push k (take i es) (s, v)))
 
 pub zero_step : (out xs : List ℕ) (j n : ℕ) → n ≤ j → j < length out → take j out ≡ xs ++ replicate (j - n) 0 → take (j + 1) (set out j 0) ≡ xs ++ replicate (j + 1 - n) 0
 zero_step out xs j n h l inv =
@@ -64,31 +64,31 @@ pub pairs_length : (n : ℕ) (ws : List ℕ) → length (pairs n ws) ≡ n
 pairs_length zero ws = refl
 pairs_length (suc n) ws = ap suc (pairs_length n (drop 2 ws))
 
-pub pairs-push : (n : ℕ) (ws : List ℕ) → pairs (suc n) ws ≡ pairs n ws ++ (get_or ws (2 * n) 0 % 268435456, get_or ws (2 * n + 1) 0 % 268435456) ∷ []
-pairs-push zero ws = refl
-pairs-push (suc n) ws =
+pub pairs_push : (n : ℕ) (ws : List ℕ) → pairs (suc n) ws ≡ pairs n ws ++ (get_or ws (2 * n) 0 % 268435456, get_or ws (2 * n + 1) 0 % 268435456) ∷ []
+pairs_push zero ws = refl
+pairs_push (suc n) ws =
     let a : get_or (drop 2 ws) (2 * n) 0 ≡ get_or ws (2 * suc n) 0 = get_or-drop 2 ws (2 * n) 0 ∙ ap (λ k. get_or ws k 0) (omega arith) in
     let b : get_or (drop 2 ws) (2 * n + 1) 0 ≡ get_or ws (2 * suc n + 1) 0 = get_or-drop 2 ws (2 * n + 1) 0 ∙ ap (λ k. get_or ws k 0) (omega arith) in
     ap (λ r. (get_or ws 0 0 % 268435456, get_or ws 1 0 % 268435456) ∷ r)
-    (pairs-push n (drop 2 ws)
+    (pairs_push n (drop 2 ws)
     ∙ ap (λ x. pairs n (drop 2 ws) ++ (x % 268435456, get_or (drop 2 ws) (2 * n + 1) 0 % 268435456) ∷ []) a
     ∙ ap (λ x. pairs n (drop 2 ws) ++ (get_or ws (2 * suc n) 0 % 268435456, x % 268435456) ∷ []) b)
 
-pub dec-step : (X : Type 0) (f : X → ℕ × ℕ) (items : List X) (ws : List ℕ) (i : ℕ) (e : X) → i < length items
+pub dec_step : (X : Type 0) (f : X → ℕ × ℕ) (items : List X) (ws : List ℕ) (i : ℕ) (e : X) → i < length items
     → f e ≡ (get_or ws (2 * i + 2) 0 % 268435456, get_or ws (2 * i + 3) 0 % 268435456)
     → map f (take i items) ≡ pairs i (drop 2 ws) → map f (take (i + 1) (set items i e)) ≡ pairs (i + 1) (drop 2 ws)
-dec-step X f items ws i e h fe inv =
+dec_step X f items ws i e h fe inv =
     let a : get_or (drop 2 ws) (2 * i) 0 ≡ get_or ws (2 * i + 2) 0 = get_or-drop 2 ws (2 * i) 0 ∙ ap (λ k. get_or ws k 0) (omega arith) in
     let b : get_or (drop 2 ws) (2 * i + 1) 0 ≡ get_or ws (2 * i + 3) 0 = get_or-drop 2 ws (2 * i + 1) 0 ∙ ap (λ k. get_or ws k 0) (omega arith) in
     ap (map f) (take_more_set items i e h) ∙ map_push f (take i items) e ∙ ap (λ xs. xs ++ f e ∷ []) inv
     ∙ ap (λ p. pairs i (drop 2 ws) ++ p ∷ []) fe
     ∙ ap (λ x. pairs i (drop 2 ws) ++ (x % 268435456, get_or ws (2 * i + 3) 0 % 268435456) ∷ []) (sym a)
     ∙ ap (λ x. pairs i (drop 2 ws) ++ (get_or (drop 2 ws) (2 * i) 0 % 268435456, x % 268435456) ∷ []) (sym b)
-    ∙ sym (pairs-push i (drop 2 ws))
+    ∙ sym (pairs_push i (drop 2 ws))
     ∙ ap (λ n. pairs n (drop 2 ws)) (sym (add-one i))
 
-fits-no : (n l : ℕ) (ws : List ℕ) → (15 < n) ⊎ (4 < l) → (leb (length (pairs n ws)) 15 && ltb l 5) ≡ false
-fits-no n l ws h = ⊎_elim
+fits_no : (n l : ℕ) (ws : List ℕ) → (15 < n) ⊎ (4 < l) → (leb (length (pairs n ws)) 15 && ltb l 5) ≡ false
+fits_no n l ws h = ⊎_elim
     (λ p. and_left (leb (length (pairs n ws)) 15) (ltb l 5) (lt-leb (length (pairs n ws)) 15 (omega (arith, pairs_length n ws))))
     (λ p. and_right (leb (length (pairs n ws)) 15) (ltb l 5) (le-ltb l 5 (omega arith))) h
 
@@ -97,7 +97,7 @@ fits_yes n l ws a b = and_from (leb (length (pairs n ws)) 15) (ltb l 5) (le-leb 
 
 -- words with too many entries, or too high a level, hold no block
 pub decode_far : (ws : List ℕ) → (15 < get_or ws 0 0 % 256) ⊎ (4 < get_or ws 0 0 % 268435456 / 256) → None ≡ decode ws
-decode_far ws h = sym (ap (λ b. cond (b && same ws (encode (length ws) (read ws))) (Some (read ws)) None) (fits-no (get_or ws 0 0 % 256) (get_or ws 0 0 % 268435456 / 256) (drop 2 ws) h))
+decode_far ws h = sym (ap (λ b. cond (b && same ws (encode (length ws) (read ws))) (Some (read ws)) None) (fits_no (get_or ws 0 0 % 256) (get_or ws 0 0 % 268435456 / 256) (drop 2 ws) h))
 
 -- else the test decides
 pub decode_by : (ws : List ℕ) (n : Block) (b : Bool) → get_or ws 0 0 % 256 ≤ 15 → get_or ws 0 0 % 268435456 / 256 ≤ 4 → n ≡ read ws → b ≡ same ws (encode (length ws) n) → cond b (Some n) None ≡ decode ws

@@ -14,8 +14,8 @@ map_flush : (cs : List Cell) → map raised_cell (map flushed_cell cs) ≡ map f
 map_flush [] = refl
 map_flush (c ∷ cs) = ap (λ t. raised_cell (flushed_cell c) ∷ t) (map_flush cs)
 
-pub limited-flushed : (n : ℕ) (m : Meaning) → limited n (flushed m) ≡ flushed (limited n m)
-limited-flushed n m = ap with_cells (ap (map raised_cell) (take-map flushed_cell n m.cells) ∙ map_flush (take n m.cells))
+pub limited_flushed : (n : ℕ) (m : Meaning) → limited n (flushed m) ≡ flushed (limited n m)
+limited_flushed n m = ap with_cells (ap (map raised_cell) (take-map flushed_cell n m.cells) ∙ map_flush (take n m.cells))
   where
     with_cells : List Cell → Meaning
     with_cells cs = record { width = m.width; cells = cs; left = m.left; left_mark = raised m.left_mark }
@@ -68,8 +68,8 @@ module _ (n : ℕ) (m : Meaning) (few : n ≤ blocks_of m) (b : ℕ) (h : b < n)
         by_content (words ws) = refl
         by_content (damaged j) = refl
 
-    pub limited-filled : (buf : List ℕ) → filled (reading Quota (limited n m) b k) buf ≡ filled (reading l m b k) buf
-    limited-filled buf = ap (λ r. filled r buf) limited_reading ∙ by_content (current_at m b) ∙ sym (ap (λ r. filled r buf) below_reading)
+    pub limited_filled : (buf : List ℕ) → filled (reading Quota (limited n m) b k) buf ≡ filled (reading l m b k) buf
+    limited_filled buf = ap (λ r. filled r buf) limited_reading ∙ by_content (current_at m b) ∙ sym (ap (λ r. filled r buf) below_reading)
       where
         by_content : (x : Content) → filled (held (raised_content x)) buf ≡ filled (held x) buf
         by_content (words ws) = refl

@@ -26,9 +26,9 @@ pub within_abs : (z : ℤ) (b : ℕ) → nat_abs z ≤ b → (neg_ℤ (pos b) �
 within_abs (pos n) b h = (omega (arith, ints), omega (arith, ints))
 within_abs (negsuc n) b h = (omega (arith, ints), omega (arith, ints))
 
-pub fits-abs : (z : ℤ) → nat_abs z < 2 ^ 31 → SFits w32 z
-fits-abs (pos n) h = record { sfits = h }
-fits-abs (negsuc n) h = record { sfits = omega arith }
+pub fits_abs : (z : ℤ) → nat_abs z < 2 ^ 31 → SFits w32 z
+fits_abs (pos n) h = record { sfits = h }
+fits_abs (negsuc n) h = record { sfits = omega arith }
 
 -- a number as a register of 32 bits holds it
 abbrev pub stored : ℤ → ℤ
@@ -39,7 +39,7 @@ pub record InRange (a : ℤ) : Type 0 where
   pub high : a ≤ℤ pos 9000
 
 pub same : (a : ℤ) → InRange a → stored a ≡ a
-same a h = to_z-of_z w32 a (fits-abs a (omega (arith, abs_within a 9000 (omega (arith, ints, h.low)) h.high)))
+same a h = to_z-of_z w32 a (fits_abs a (omega (arith, abs_within a 9000 (omega (arith, ints, h.low)) h.high)))
 
 -- from a to b, n along of k
 module _ (a b : ℤ) (n k : ℕ) (ra : InRange a) (rb : InRange b) (few : n ≤ 9999) (small : k ≤ 9999) where
@@ -47,7 +47,7 @@ module _ (a b : ℤ) (n k : ℕ) (ra : InRange a) (rb : InRange b) (few : n ≤ 
   rise_abs = abs_within (b -ℤ a) 18000 (omega (arith, ints, ra.high, rb.low)) (omega (arith, ints, ra.low, rb.high))
 
   rise : stored (stored b -ℤ stored a) ≡ b -ℤ a
-  rise = ap stored (ap₂ ◌-ℤ◌ (same b rb) (same a ra)) ∙ to_z-of_z w32 (b -ℤ a) (fits-abs (b -ℤ a) (omega (arith, rise_abs)))
+  rise = ap stored (ap₂ ◌-ℤ◌ (same b rb) (same a ra)) ∙ to_z-of_z w32 (b -ℤ a) (fits_abs (b -ℤ a) (omega (arith, rise_abs)))
 
   pub product : stored (stored b -ℤ stored a) *ℤ to_z w32 n ≡ (b -ℤ a) *ℤ pos n
   product = ap₂ ◌*ℤ◌ rise (to_z_pos w32 n (omega arith))
@@ -56,7 +56,7 @@ module _ (a b : ℤ) (n k : ℕ) (ra : InRange a) (rb : InRange b) (few : n ≤ 
   product_abs = abs_mul (b -ℤ a) n 18000 9999 rise_abs few
 
   product_small : SFits w32 ((b -ℤ a) *ℤ pos n)
-  product_small = fits-abs ((b -ℤ a) *ℤ pos n) (omega (arith, product_abs))
+  product_small = fits_abs ((b -ℤ a) *ℤ pos n) (omega (arith, product_abs))
 
   pub product_fits : SFits w32 (stored (stored b -ℤ stored a) *ℤ to_z w32 n)
   product_fits = subst (SFits w32) (sym product) product_small
@@ -68,7 +68,7 @@ module _ (a b : ℤ) (n k : ℕ) (ra : InRange a) (rb : InRange b) (few : n ≤ 
   quotient_abs = omega (arith, abs_quot ((b -ℤ a) *ℤ pos n) k, product_abs)
 
   quotient_small : SFits w32 (quot_z ((b -ℤ a) *ℤ pos n) (pos k))
-  quotient_small = fits-abs (quot_z ((b -ℤ a) *ℤ pos n) (pos k)) (omega (arith, quotient_abs))
+  quotient_small = fits_abs (quot_z ((b -ℤ a) *ℤ pos n) (pos k)) (omega (arith, quotient_abs))
 
   pub quotient_fits : SFits w32 (quot_z (stored (stored (stored b -ℤ stored a) *ℤ to_z w32 n)) (to_z w32 k))
   quotient_fits = subst (SFits w32) (sym quotient) quotient_small
@@ -80,7 +80,7 @@ module _ (a b : ℤ) (n k : ℕ) (ra : InRange a) (rb : InRange b) (few : n ≤ 
   total_small =
       let q = quot_z ((b -ℤ a) *ℤ pos n) (pos k) in
       let w = within_abs q 179982000 quotient_abs in
-      fits-abs (a +ℤ q) (omega (arith, abs_within (a +ℤ q) 179991000 (omega (arith, ints, w.0, ra.low)) (omega (arith, ints, w.1, ra.high))))
+      fits_abs (a +ℤ q) (omega (arith, abs_within (a +ℤ q) 179991000 (omega (arith, ints, w.0, ra.low)) (omega (arith, ints, w.1, ra.high))))
 
   pub total_fits : SFits w32 (stored a +ℤ stored (quot_z (stored (stored (stored b -ℤ stored a) *ℤ to_z w32 n)) (to_z w32 k)))
   total_fits = subst (SFits w32) (sym total) total_small

@@ -13,15 +13,15 @@ later_none : (x : Option (ℕ × ℤ)) → x ≡ later None x
 later_none None = refl
 later_none (Some y) = refl
 
-later-later : (b : Option (ℕ × ℤ)) (e : ℕ × ℤ) (x : Option (ℕ × ℤ)) → later b (later (Some e) x) ≡ later (Some e) x
-later-later b e None = refl
-later-later b e (Some y) = refl
+later_later : (b : Option (ℕ × ℤ)) (e : ℕ × ℤ) (x : Option (ℕ × ℤ)) → later b (later (Some e) x) ≡ later (Some e) x
+later_later b e None = refl
+later_later b e (Some y) = refl
 
 pub first_row : (s : ℕ) (rs : List (ℕ × ℤ)) → angle_at s rs ≡ onward None rs s
 first_row s rs = ap (λ x. angle_by x (past s rs) s) (later_none (up_to s rs))
 
 pub next_row : (b : Option (ℕ × ℤ)) (e : ℕ × ℤ) (rs : List (ℕ × ℤ)) (s : ℕ) → e.0 ≤ s → onward b (e ∷ rs) s ≡ onward (Some e) rs s
-next_row b e rs s h = let t = le-ltb s e.0 h in rw (t, later-later b e (up_to s rs))
+next_row b e rs s h = let t = le-ltb s e.0 h in rw (t, later_later b e (up_to s rs))
 
 pub last_row : (b : Option (ℕ × ℤ)) (e : ℕ × ℤ) (rs : List (ℕ × ℤ)) (s : ℕ) → s < e.0 → onward b (e ∷ rs) s ≡ angle_by b (Some e) s
 last_row b e rs s h = let t = lt-ltb s e.0 h in rw t

@@ -32,9 +32,9 @@ tops_append : {X : Type 0} (xs ys : List (ℕ × Node O X)) → tops (xs ++ ys) 
 tops_append [] ys = omega arith
 tops_append (e ∷ r) ys = omega (arith, tops_append r ys)
 
-tops-length : {X : Type 0} (xs : List (ℕ × Node O X)) → tops xs ≤ length xs
-tops-length [] = omega arith
-tops-length (e ∷ r) = omega (arith, new_one e.1.0, tops-length r)
+tops_length : {X : Type 0} (xs : List (ℕ × Node O X)) → tops xs ≤ length xs
+tops_length [] = omega arith
+tops_length (e ∷ r) = omega (arith, new_one e.1.0, tops_length r)
 
 module _ (P : Type 0) where
   abbrev OldP : (l : ℕ) → Pay O P l → Type 0
@@ -55,9 +55,9 @@ module _ (P : Type 0) where
   Slim zero es = Unit {0}
   Slim (suc l) es = (tops es ≤ 2) × OneDeep l (Slim l) es
 
-  olds-tops : (l : ℕ) (es : List (ℕ × Tree O P l)) → Olds (suc l) es → tops es ≡ 0
-  olds-tops l [] o = refl
-  olds-tops l (e ∷ r) o = omega (arith, old_new e.1.0 o.0.0, olds-tops l r o.1)
+  olds_tops : (l : ℕ) (es : List (ℕ × Tree O P l)) → Olds (suc l) es → tops es ≡ 0
+  olds_tops l [] o = refl
+  olds_tops l (e ∷ r) o = omega (arith, old_new e.1.0 o.0.0, olds_tops l r o.1)
 
   olds_shallow : (l : ℕ) (es : List (ℕ × Tree O P l)) → Olds (suc l) es → Every (Shallow l) es
   olds_shallow l [] o = tt
@@ -69,15 +69,15 @@ module _ (P : Type 0) where
 
   old_slim : (l : ℕ) (es : List (ℕ × Pay O P l)) → Olds l es → Slim l es
   old_slim zero es o = tt
-  old_slim (suc l) es o = (omega (arith, olds-tops l es o), shallow_deep l (Slim l) es (olds_shallow l es o))
+  old_slim (suc l) es o = (omega (arith, olds_tops l es o), shallow_deep l (Slim l) es (olds_shallow l es o))
 
-  deep-append : (l : ℕ) (S : List (ℕ × Pay O P l) → Type 0) (xs ys : List (ℕ × Tree O P l)) → OneDeep l S xs → Every (Shallow l) ys → OneDeep l S (xs ++ ys)
-  deep-append l S [] ys d o = shallow_deep l S ys o
-  deep-append l S (e ∷ r) ys (inl d) o = inl (d.0, deep-append l S r ys d.1 o)
-  deep-append l S (e ∷ r) ys (inr d) o = inr (d.0, every_append (Shallow l) r ys d.1 o)
+  deep_append : (l : ℕ) (S : List (ℕ × Pay O P l) → Type 0) (xs ys : List (ℕ × Tree O P l)) → OneDeep l S xs → Every (Shallow l) ys → OneDeep l S (xs ++ ys)
+  deep_append l S [] ys d o = shallow_deep l S ys o
+  deep_append l S (e ∷ r) ys (inl d) o = inl (d.0, deep_append l S r ys d.1 o)
+  deep_append l S (e ∷ r) ys (inr d) o = inr (d.0, every_append (Shallow l) r ys d.1 o)
 
   slim_append : (l : ℕ) (xs ys : List (ℕ × Tree O P l)) → Slim (suc l) xs → Olds (suc l) ys → Slim (suc l) (xs ++ ys)
-  slim_append l xs ys q o = (omega (arith, q.0, tops_append xs ys, olds-tops l ys o), deep-append l (Slim l) xs ys q.1 (olds_shallow l ys o))
+  slim_append l xs ys q o = (omega (arith, q.0, tops_append xs ys, olds_tops l ys o), deep_append l (Slim l) xs ys q.1 (olds_shallow l ys o))
 
   slim_cons : (l : ℕ) (e : ℕ × Tree O P l) (r : List (ℕ × Tree O P l)) → OldP (suc l) e.1 → Slim (suc l) r → Slim (suc l) (e ∷ r)
   slim_cons l e r o q = (omega (arith, q.0, old_new e.1.0 o.0), inl (o.1, q.1))
@@ -108,7 +108,7 @@ module _ (P : Type 0) where
           (λ t. subst (λ (z : List (ℕ × Tree O P l)). OneDeep l (Slim l) (z ++ r)) (sym (y.0 e.0)) (inr (h e.1.1 o.0, o.1))) (λ t. inl (o.0, touch_deep r y.1 o.1))
 
       touched : (ms : List (ℕ × Tree O P l)) → length ms ≤ 2 → Every Touches ms → Every (Shallow l) ms → Slim (suc l) (at s f ms)
-      touched ms k y o = (omega (arith, tops-length (at s f ms), touch_length ms y), touch_deep ms y o)
+      touched ms k y o = (omega (arith, tops_length (at s f ms), touch_length ms y), touch_deep ms y o)
 
     all_touch : (l : ℕ) (g : List (ℕ × Pay O P l) → List (ℕ × Pay O P l)) (h : (es : List (ℕ × Pay O P l)) → Olds l es → Slim l (g es)) (ms : List (ℕ × Tree O P l)) → Every (Touches l g h (touch None g)) ms
     unfolding Touches
@@ -139,8 +139,8 @@ module _ (P : Type 0) where
         cond_both (ltb s d.0) _ _ (Slim (suc l)) (λ t. slim_append l (fR e d) r (hR e d a o.0) o.1)
         (λ t. cond_both (is_nil r) _ _ (Slim (suc l)) (λ u. hL e d a o.0) (λ u. slim_cons l e (beside s f fR fL d r) a (beside_slim l f fR fL h hR hL d r o.0 o.1)))
 
-    ready-right : (l : ℕ) (e d : ℕ × Tree O P l) → Shallow l e.1 → Shallow l d.1 → (length (ready_right None e d) ≤ 2) × Every (Shallow l) (ready_right None e d)
-    ready-right l e d a b =
+    ready_right_lem : (l : ℕ) (e d : ℕ × Tree O P l) → Shallow l e.1 → Shallow l d.1 → (length (ready_right None e d) ≤ 2) × Every (Shallow l) (ready_right None e d)
+    ready_right_lem l e d a b =
         let R : List (ℕ × Tree O P l) → Type 0 = λ z. (length z ≤ 2) × Every (Shallow l) z in
         cond_both (eqb (length e.1.1) 7) (fill_right None e.0 e.1.1 d.1.1) (e ∷ d ∷ []) R
         (λ t. cond_both (eqb (length d.1.1) 7) _ _ R
@@ -148,8 +148,8 @@ module _ (P : Type 0) where
         (λ u. (omega arith, (every_append (OldP l) e.1.1 (take 1 d.1.1) a (every_take (OldP l) 1 d.1.1 b), (every_drop (OldP l) 1 d.1.1 b, tt)))))
         (λ t. (omega arith, (a, (b, tt))))
 
-    ready-left : (l : ℕ) (e d : ℕ × Tree O P l) → Shallow l e.1 → Shallow l d.1 → (length (ready_left None e d) ≤ 2) × Every (Shallow l) (ready_left None e d)
-    ready-left l e d a b =
+    ready_left_lem : (l : ℕ) (e d : ℕ × Tree O P l) → Shallow l e.1 → Shallow l d.1 → (length (ready_left None e d) ≤ 2) × Every (Shallow l) (ready_left None e d)
+    ready_left_lem l e d a b =
         let R : List (ℕ × Tree O P l) → Type 0 = λ z. (length z ≤ 2) × Every (Shallow l) z in
         let n : ℕ = length e.1.1 - 1 in
         cond_both (eqb (length d.1.1) 7) (fill_left None e.0 e.1.1 d.1.1) (e ∷ d ∷ []) R
@@ -158,15 +158,15 @@ module _ (P : Type 0) where
         (λ u. (omega arith, (every_take (OldP l) n e.1.1 a, (every_append (OldP l) (drop n e.1.1) d.1.1 (every_drop (OldP l) n e.1.1 a) b, tt)))))
         (λ t. (omega arith, (a, (b, tt))))
 
-    rem-slim : (l : ℕ) (es : List (ℕ × Pay O P l)) → Olds l es → Slim l (rem_e O P None s l es)
-    rem-slim zero es o = tt
-    rem-slim (suc l) [] o = (omega arith, tt)
-    rem-slim (suc l) (e ∷ r) o =
+    rem_slim : (l : ℕ) (es : List (ℕ × Pay O P l)) → Olds l es → Slim l (rem_e O P None s l es)
+    rem_slim zero es o = tt
+    rem_slim (suc l) [] o = (omega arith, tt)
+    rem_slim (suc l) (e ∷ r) o =
         let g : List (ℕ × Pay O P l) → List (ℕ × Pay O P l) = rem_e O P None s l in
         beside_slim l (touch None g) (λ e d. at s (touch None g) (ready_right None e d)) (λ e d. at s (touch None g) (ready_left None e d))
-        (λ k x q. (omega arith, inr (rem-slim l x.1 q.1, tt)))
-        (λ e d a b. let y = ready-right l e d a.1 b.1 in touch_few l g (rem-slim l) (ready_right None e d) y.0 y.1)
-        (λ e d a b. let y = ready-left l e d a.1 b.1 in touch_few l g (rem-slim l) (ready_left None e d) y.0 y.1)
+        (λ k x q. (omega arith, inr (rem_slim l x.1 q.1, tt)))
+        (λ e d a b. let y = ready_right_lem l e d a.1 b.1 in touch_few l g (rem_slim l) (ready_right None e d) y.0 y.1)
+        (λ e d a b. let y = ready_left_lem l e d a.1 b.1 in touch_few l g (rem_slim l) (ready_left None e d) y.0 y.1)
         e r o.0 o.1
 
     -- a split root: both halves are new, and neither is full
@@ -266,9 +266,9 @@ module _ (P : Type 0) where
   slim_apart zero es q = tt
   slim_apart (suc l) es q = let k = q.0 in line_apart l (slim_apart l) (2 * l) es (omega arith) (omega arith) (omega arith) q.1
 
-  root-apart : (l : ℕ) (m : O) (es : List (ℕ × Pay O P l)) → Slim l es → Distinct (taking m (2 * l) (ps l es))
-  root-apart l None es q = ((λ u. let x = below l es (2 * l) u in omega arith), slim_apart l es q)
-  root-apart l (Some b) es q = slim_apart l es q
+  root_apart : (l : ℕ) (m : O) (es : List (ℕ × Pay O P l)) → Slim l es → Distinct (taking m (2 * l) (ps l es))
+  root_apart l None es q = ((λ u. let x = below l es (2 * l) u in omega arith), slim_apart l es q)
+  root_apart l (Some b) es q = slim_apart l es q
 
   pub old_over : (l : ℕ) (p : Pay ℕ P l) → OldP l (over Some same l p)
   old_over zero p = tt
@@ -323,10 +323,10 @@ module _ (P : Type 0) where
           omega (arith, often_append k (taking e.1.0 l (ls l e.1.1)) (row l (onward e.1.0 i (2 * l + 1)) r), often_other k l e.1.0 (ls l e.1.1) (λ q. omega (arith, h, q)), ih e.1.1, go ih (onward e.1.0 i (2 * l + 1)) r)
 
   -- on their own level they are those on top
-  row-own : (l i : ℕ) (es : List (ℕ × Tree O P l)) → often l (row l i es) ≡ tops es
-  row-own l i [] = refl
-  row-own l i (e ∷ r) =
-      omega (arith, often_append l (taking e.1.0 l (ls l e.1.1)) (row l (onward e.1.0 i (2 * l + 1)) r), often_same l e.1.0 (ls l e.1.1), none_high l l e.1.1 (omega arith), row-own l (onward e.1.0 i (2 * l + 1)) r)
+  row_own : (l i : ℕ) (es : List (ℕ × Tree O P l)) → often l (row l i es) ≡ tops es
+  row_own l i [] = refl
+  row_own l i (e ∷ r) =
+      omega (arith, often_append l (taking e.1.0 l (ls l e.1.1)) (row l (onward e.1.0 i (2 * l + 1)) r), often_same l e.1.0 (ls l e.1.1), none_high l l e.1.1 (omega arith), row_own l (onward e.1.0 i (2 * l + 1)) r)
 
   row_old : (l k i : ℕ) (es : List (ℕ × Tree O P l)) → (k ≡ l → ⊥) → Every (Shallow l) es → often k (row l i es) ≡ 0
   row_old l k i [] n o = refl
@@ -339,24 +339,24 @@ module _ (P : Type 0) where
         row_old l k (onward e.1.0 i (2 * l + 1)) r n o.1,
       )
 
-  row-deep : (l k i : ℕ) → ((es : List (ℕ × Pay O P l)) → Slim l es → often k (ls l es) ≤ 2) → (es : List (ℕ × Tree O P l)) → (k ≡ l → ⊥) → OneDeep l (Slim l) es → often k (row l i es) ≤ 2
-  row-deep l k i ih [] n d = omega arith
-  row-deep l k i ih (e ∷ r) n d =
+  row_deep : (l k i : ℕ) → ((es : List (ℕ × Pay O P l)) → Slim l es → often k (ls l es) ≤ 2) → (es : List (ℕ × Tree O P l)) → (k ≡ l → ⊥) → OneDeep l (Slim l) es → often k (row l i es) ≤ 2
+  row_deep l k i ih [] n d = omega arith
+  row_deep l k i ih (e ∷ r) n d =
       let j : ℕ = onward e.1.0 i (2 * l + 1) in
       let x = often_append k (taking e.1.0 l (ls l e.1.1)) (row l j r) in
       let y = often_other k l e.1.0 (ls l e.1.1) n in
       ⊎_elim
-      (λ u. let z = ap (often k) (none_old ℕ (its_level P) l e.1.1 u.0) in let w = row-deep l k j ih r n u.1 in omega arith)
+      (λ u. let z = ap (often k) (none_old ℕ (its_level P) l e.1.1 u.0) in let w = row_deep l k j ih r n u.1 in omega arith)
       (λ u. let z = ih e.1.1 u.0 in let w = row_old l k j r n u.1 in omega arith) d
 
   slim_two : (l k : ℕ) (es : List (ℕ × Pay O P l)) → Slim l es → often k (ls l es) ≤ 2
   slim_two zero k es q = omega arith
   slim_two (suc l) k es q =
-      ⊎_elim (λ e. let x = row-own l (2 * l) es in let y = q.0 in let z = ap (λ j. often j (row l (2 * l) es)) e in omega arith)
-      (λ n. row-deep l k (2 * l) (slim_two l k) es n q.1) (cases_eq k l)
+      ⊎_elim (λ e. let x = row_own l (2 * l) es in let y = q.0 in let z = ap (λ j. often j (row l (2 * l) es)) e in omega arith)
+      (λ n. row_deep l k (2 * l) (slim_two l k) es n q.1) (cases_eq k l)
 
-  root-two : (l : ℕ) (m : O) (es : List (ℕ × Pay O P l)) → Slim l es → TwoEach P (l, (m, es))
-  root-two l m es q =
+  root_two : (l : ℕ) (m : O) (es : List (ℕ × Pay O P l)) → Slim l es → TwoEach P (l, (m, es))
+  root_two l m es q =
       let own : often l (taking m l (ls l es)) ≤ 1 = omega (arith, often_same l m (ls l es), none_high l l es (omega arith), new_one m) in
       ((λ k. ⊎_elim (λ e. let z = ap (λ j. often j (taking m l (ls l es))) e in omega arith) (λ n. let x = often_other k l m (ls l es) n in let y = slim_two l k es q in omega arith) (cases_eq k l)), own)
 
@@ -367,11 +367,11 @@ both P F h s t =
     let r : Root O P = over_root Some same t in
     let o = (old_over P (suc t.0) t.1).1 in (
       (λ a. h (put_root O P None s a r).0 None (put_root O P None s a r).1.1 (put_root_lem P s a r o)),
-      lowered P F h t.0 (None, rem_e O P None s t.0 r.1.1) (rem-slim P s t.0 r.1.1 o),
+      lowered P F h t.0 (None, rem_e O P None s t.0 r.1.1) (rem_slim P s t.0 r.1.1 o),
     )
 
 pub places_apart : (P : Type 0) → PlacesApart P
-places_apart P s t = both P (λ r. Distinct (places P r)) (root-apart P) s t
+places_apart P s t = both P (λ r. Distinct (places P r)) (root_apart P) s t
 
 pub two_a_level : (P : Type 0) → TwoALevel P
-two_a_level P s t = both P (TwoEach P) (root-two P) s t
+two_a_level P s t = both P (TwoEach P) (root_two P) s t

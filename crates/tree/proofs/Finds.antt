@@ -13,9 +13,9 @@ module _ {X : Type 0} (W : ℕ → ℕ → X → Type 0) (wle : (k m : ℕ) (x :
   not_nil [] h = absurd (not-suc-le-zero h)
   not_nil (x ∷ r) h = refl
 
-  pub ahead-yes : (s : ℕ) (e : ℕ × X) (r : List (ℕ × X)) (d : ℕ × X) → (1 < length (e ∷ r) → s < (get_or (e ∷ r) 1 d).0) → ahead s r ≡ true
-  ahead-yes s e [] d h = refl
-  ahead-yes s e (x ∷ r) d h = lt-ltb s x.0 (h (omega arith))
+  pub ahead_yes : (s : ℕ) (e : ℕ × X) (r : List (ℕ × X)) (d : ℕ × X) → (1 < length (e ∷ r) → s < (get_or (e ∷ r) 1 d).0) → ahead s r ≡ true
+  ahead_yes s e [] d h = refl
+  ahead_yes s e (x ∷ r) d h = lt-ltb s x.0 (h (omega arith))
 
   pub ahead_no : (s m hi : ℕ) (r : List (ℕ × X)) (i : ℕ) (d : ℕ × X) → Seg ◌≡◌ W m hi r → i < length r → (get_or r i d).0 ≤ s → ahead s r ≡ false
   ahead_no s m hi [] i d p h k = absurd (not-suc-le-zero h)
@@ -24,7 +24,7 @@ module _ {X : Type 0} (W : ℕ → ℕ → X → Type 0) (wle : (k m : ℕ) (x :
   pub at_index : (s : ℕ) (f : ℕ → X → List (ℕ × X)) (lo hi : ℕ) (es : List (ℕ × X)) (i : ℕ) (d : ℕ × X) → Seg ◌≡◌ W lo hi es → i < length es → (get_or es i d).0 ≤ s → (suc i < length es → s < (get_or es (suc i) d).0)
       → at s f es ≡ take i es ++ (f (get_or es i d).0 (get_or es i d).1 ++ drop (suc i) es)
   at_index s f lo hi [] i d p h k n = absurd (not-suc-le-zero h)
-  at_index s f lo hi (e ∷ r) zero d p h k n = rw (ahead-yes s e r d n)
+  at_index s f lo hi (e ∷ r) zero d p h k n = rw (ahead_yes s e r d n)
   at_index s f lo hi (e ∷ r) (suc i) d p h k n =
       rw (ahead_no s p.1.0 hi r i d p.1.2 (omega arith) k) (ap (λ (z : List (ℕ × X)). e ∷ z) (at_index s f p.1.0 hi r i d p.1.2 (omega arith) k (λ j. n (omega arith))))
 

@@ -8,7 +8,7 @@ use Rattle.tree.specs.Stored.{Numbers, forget, same}
 use Rattle.tree.specs.Numbered.{number_or, onward, beside, numbers, numbered, Known}
 use Rattle.tree.specs.Apart.{taking, along, collect, its_place, places, In, Distinct}
 use Rattle.tree.specs.Granted.{inside, sift, taken, FromGrant}
-use Rattle.tree.proofs.Kept.{kept, rem-kept}
+use Rattle.tree.proofs.Kept.{kept, rem_kept}
 use Rattle.tree.proofs.Numbering.{erased}
 use Rattle.tree.proofs.Apart.{below, places_apart}
 
@@ -70,13 +70,13 @@ module _ (P : Type 0) (pick : ℕ → ℕ) (fresh : ℕ → Bool) where
   onward_le None i j k a b = b
   onward_le (Some x) i j k a b = a
 
-  fresh-marks : (l : ℕ) (es : List (ℕ × Pay (Option ℕ) P l)) → ((i : ℕ) → i ≤ 2 * l → fresh (pick i) ≡ true) → Every (All (Option ℕ) P Old l) es → sift fresh (marks l (numbers P pick l es)) ≡ map pick (ps l es)
-  fresh-marks zero es h a = leaf es
+  fresh_marks : (l : ℕ) (es : List (ℕ × Pay (Option ℕ) P l)) → ((i : ℕ) → i ≤ 2 * l → fresh (pick i) ≡ true) → Every (All (Option ℕ) P Old l) es → sift fresh (marks l (numbers P pick l es)) ≡ map pick (ps l es)
+  fresh_marks zero es h a = leaf es
     where
       leaf : (es : List (ℕ × P)) → sift fresh (marks zero es) ≡ []
       leaf [] = refl
       leaf (e ∷ r) = leaf r
-  fresh-marks (suc l) es h a = go (λ es. fresh-marks l es (λ i q. h i (omega arith))) (2 * l) (omega arith) es a
+  fresh_marks (suc l) es h a = go (λ es. fresh_marks l es (λ i q. h i (omega arith))) (2 * l) (omega arith) es a
     where
       go : ((es : List (ℕ × Pay (Option ℕ) P l)) → Every (All (Option ℕ) P Old l) es → sift fresh (marks l (numbers P pick l es)) ≡ map pick (ps l es))
           → (i : ℕ) → i ≤ 2 * l + 1 → (es : List (ℕ × Tree (Option ℕ) P l)) → Every (All (Option ℕ) P Old (suc l)) es → sift fresh (marks (suc l) (beside pick (numbers P pick l) i (2 * l + 1) es)) ≡ map pick (along (its_place P l) (ps l) i (2 * l + 1) es)
@@ -92,13 +92,13 @@ module _ (P : Type 0) (pick : ℕ → ℕ) (fresh : ℕ → Bool) where
   fresh_places : (r : Root (Option ℕ) P) → ((i : ℕ) → i ≤ 2 * r.0 → fresh (pick i) ≡ true) → All (Option ℕ) P Old (suc r.0) r.1
       → sift fresh (blocks ℕ P r.0 (numbered P pick r).1) ≡ map pick (places P r)
   fresh_places r h a =
-      one (2 * r.0) r.1.0 (marks r.0 (numbers P pick r.0 r.1.1)) (ps r.0 r.1.1) (h (2 * r.0) (omega arith)) a.0 (fresh-marks r.0 r.1.1 h a.1)
+      one (2 * r.0) r.1.0 (marks r.0 (numbers P pick r.0 r.1.1)) (ps r.0 r.1.1) (h (2 * r.0) (omega arith)) a.0 (fresh_marks r.0 r.1.1 h a.1)
 
 -- Places go up to twice the root's level.
-place-le : (P : Type 0) (r : Root (Option ℕ) P) (p : ℕ) → In p (places P r) → p ≤ 2 * r.0
-place-le P (l, (None, es)) p (inl e) = omega arith
-place-le P (l, (None, es)) p (inr h) = let q = below P l es p h in omega arith
-place-le P (l, (Some b, es)) p h = let q = below P l es p h in omega arith
+place_le : (P : Type 0) (r : Root (Option ℕ) P) (p : ℕ) → In p (places P r) → p ≤ 2 * r.0
+place_le P (l, (None, es)) p (inl e) = omega arith
+place_le P (l, (None, es)) p (inr h) = let q = below P l es p h in omega arith
+place_le P (l, (Some b, es)) p h = let q = below P l es p h in omega arith
 
 -- A tree that has no fresh number, before and after.
 module _ (P : Type 0) (fresh : ℕ → Bool) where
@@ -127,15 +127,15 @@ rem_level P s r = go r.0 (None, rem_e (Option ℕ) P None s r.0 r.1.1)
     go (suc l) t = only_le l t.0 t.1
 
 -- a tree whose new blocks have places apart, up to the grant's end
-numbered-from : (P : Type 0) (grant : List ℕ) (r : Root (Option ℕ) P) → 2 * r.0 + 1 ≤ length grant → Distinct grant → Distinct (places P r)
+numbered_from : (P : Type 0) (grant : List ℕ) (r : Root (Option ℕ) P) → 2 * r.0 + 1 ≤ length grant → Distinct grant → Distinct (places P r)
     → All (Option ℕ) P (λ i u. Known (λ b. inside grant b ≡ false) u.0) (suc r.0) r.1
     → (over_root (forget (inside grant)) same (numbered P (λ i. get_or grant i 0) r) ≡ r) × Distinct (taken P grant (numbered P (λ i. get_or grant i 0) r))
-numbered-from P grant r n d p k =
+numbered_from P grant r n d p k =
     let pick : ℕ → ℕ = λ i. get_or grant i 0 in
     let f : (i : ℕ) → i ≤ 2 * r.0 → inside grant (pick i) ≡ true = λ i h. inside_at grant i (omega arith) in (
       erased P pick (inside grant) r f k,
       subst (λ (z : List ℕ). Distinct z) (sym (fresh_places P pick (inside grant) r f k))
-          (distinct_map pick (places P r) (λ x y u v e. let a = place-le P r x u in let b = place-le P r y v in one_place grant x y d (omega arith) (omega arith) e) p),
+          (distinct_map pick (places P r) (λ x y u v e. let a = place_le P r x u in let b = place_le P r y v in one_place grant x y d (omega arith) (omega arith) e) p),
     )
 
 pub from_grant : (P : Type 0) → FromGrant P
@@ -144,6 +144,6 @@ from_grant P grant s t g =
     let r : Root O P = over_root Some same t in
     let Q : (l : ℕ) → Tree O P l → Type 0 = λ l u. Known (λ b. inside grant b ≡ false) u.0 in
     let old : All O P Q (suc t.0) r.1 = known_over P (inside grant) (suc t.0) t.1 g.fresh in (
-      (λ a. let h = put_level P s a r in numbered-from P grant (put_root O P None s a r) (omega (arith, g.enough, h)) g.apart ((places_apart P s t).0 a) (kept O P None Q (λ l es. tt) s a r old).0),
-      (let h = rem_level P s r in numbered-from P grant (rem_root O P None s r) (omega (arith, g.enough, h)) g.apart (places_apart P s t).1 (rem-kept O P None Q (λ l es. tt) s r old)),
+      (λ a. let h = put_level P s a r in numbered_from P grant (put_root O P None s a r) (omega (arith, g.enough, h)) g.apart ((places_apart P s t).0 a) (kept O P None Q (λ l es. tt) s a r old).0),
+      (let h = rem_level P s r in numbered_from P grant (rem_root O P None s r) (omega (arith, g.enough, h)) g.apart (places_apart P s t).1 (rem_kept O P None Q (λ l es. tt) s r old)),
     )

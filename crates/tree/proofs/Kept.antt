@@ -24,12 +24,12 @@ module _ {X : Type 0} (F : X → Type 0) where
   every_at s f h (e ∷ r) p =
       cond_both (ahead s r) _ _ (Every F) (λ t. every_append (f e.0 e.1) r (h e.0 e.1 p.0) p.1) (λ t. (p.0, every_at s f h r p.1))
 
-  every-beside : (s : ℕ) (f : ℕ → X → List (ℕ × X)) (fR fL : (ℕ × X) → (ℕ × X) → List (ℕ × X)) → ((k : ℕ) (x : X) → F x → Every F (f k x))
+  every_beside : (s : ℕ) (f : ℕ → X → List (ℕ × X)) (fR fL : (ℕ × X) → (ℕ × X) → List (ℕ × X)) → ((k : ℕ) (x : X) → F x → Every F (f k x))
       → ((e d : ℕ × X) → F e.1 → F d.1 → Every F (fR e d)) → ((e d : ℕ × X) → F e.1 → F d.1 → Every F (fL e d)) → (e : ℕ × X) (r : List (ℕ × X)) → F e.1 → Every F r → Every F (beside s f fR fL e r)
-  every-beside s f fR fL h hR hL e [] a p = h e.0 e.1 a
-  every-beside s f fR fL h hR hL e (d ∷ r) a p =
+  every_beside s f fR fL h hR hL e [] a p = h e.0 e.1 a
+  every_beside s f fR fL h hR hL e (d ∷ r) a p =
       cond_both (ltb s d.0) _ _ (Every F) (λ t. every_append (fR e d) r (hR e d a p.0) p.1)
-      (λ t. cond_both (is_nil r) _ _ (Every F) (λ u. hL e d a p.0) (λ u. (a, every-beside s f fR fL h hR hL d r p.0 p.1)))
+      (λ t. cond_both (is_nil r) _ _ (Every F) (λ u. hL e d a p.0) (λ u. (a, every_beside s f fR fL h hR hL d r p.0 p.1)))
 
 module _ (M P : Type 0) (new : M) (Q : (l : ℕ) → Tree M P l → Type 0) (written : (l : ℕ) (es : List (ℕ × Pay M P l)) → Q l (new, es)) (s : ℕ) where
   every_touch : (l : ℕ) (g : List (ℕ × Pay M P l) → List (ℕ × Pay M P l)) → ((es : List (ℕ × Pay M P l)) → Every (All M P Q l) es → Every (All M P Q l) (g es)) → (k : ℕ) (t : Tree M P l) → All M P Q (suc l) t → Every (All M P Q (suc l)) (touch new g k t)
@@ -50,19 +50,19 @@ module _ (M P : Type 0) (new : M) (Q : (l : ℕ) → Tree M P l → Type 0) (wri
       (cond_both (eqb (length t.1) 15) _ _ (Every (All M P Q (suc l))) (λ u. every_parts l 7 k t.1 q.1) (λ u. (q, tt))))
       es p
 
-  rem-every : (l : ℕ) (es : List (ℕ × Pay M P l)) → Every (All M P Q l) es → Every (All M P Q l) (rem_e M P new s l es)
-  rem-every zero es p = leaf (del s es)
+  rem_every : (l : ℕ) (es : List (ℕ × Pay M P l)) → Every (All M P Q l) es → Every (All M P Q l) (rem_e M P new s l es)
+  rem_every zero es p = leaf (del s es)
     where
       leaf : (es : List (ℕ × P)) → Every (All M P Q zero) es
       leaf [] = tt
       leaf (e ∷ r) = (tt, leaf r)
-  rem-every (suc l) [] p = tt
-  rem-every (suc l) (e ∷ r) p =
+  rem_every (suc l) [] p = tt
+  rem_every (suc l) (e ∷ r) p =
       let F = All M P Q (suc l) in
       let f = All M P Q l in
       let g = rem_e M P new s l in
-      let w = every_touch l g (rem-every l) in
-      every-beside F s (touch new g) (λ e d. at s (touch new g) (ready_right new e d)) (λ e d. at s (touch new g) (ready_left new e d)) w
+      let w = every_touch l g (rem_every l) in
+      every_beside F s (touch new g) (λ e d. at s (touch new g) (ready_right new e d)) (λ e d. at s (touch new g) (ready_left new e d)) w
       (λ e d a b. every_at F s (touch new g) w (ready_right new e d)
       (cond_both (eqb (length e.1.1) 7) _ _ (Every F)
       (λ t. cond_both (eqb (length d.1.1) 7) _ _ (Every F)
@@ -88,16 +88,16 @@ module _ (M P : Type 0) (new : M) (Q : (l : ℕ) → Tree M P l → Type 0) (wri
       go (e ∷ d ∷ r) a b = b
 
 -- of remove alone
-pub rem-kept : (M P : Type 0) (new : M) (Q : (l : ℕ) → Tree M P l → Type 0) → ((l : ℕ) (es : List (ℕ × Pay M P l)) → Q l (new, es)) → (s : ℕ) (r : Root M P) → All M P Q (suc r.0) r.1
+pub rem_kept : (M P : Type 0) (new : M) (Q : (l : ℕ) → Tree M P l → Type 0) → ((l : ℕ) (es : List (ℕ × Pay M P l)) → Q l (new, es)) → (s : ℕ) (r : Root M P) → All M P Q (suc r.0) r.1
     → All M P Q (suc (rem_root M P new s r).0) (rem_root M P new s r).1
-rem-kept M P new Q written s r p = lower_all M P new Q written s r.0 (new, rem_e M P new s r.0 r.1.1) (written _ _, rem-every M P new Q written s r.0 r.1.1 p.1)
+rem_kept M P new Q written s r p = lower_all M P new Q written s r.0 (new, rem_e M P new s r.0 r.1.1) (written _ _, rem_every M P new Q written s r.0 r.1.1 p.1)
 
 pub kept : (M P : Type 0) → Kept M P
 kept M P new Q written s a r p = (
   cond_both (eqb (length r.1.1) 15) (suc r.0, (new, parts new 7 0 r.1.1)) r (λ (q : Root M P). All M P Q (suc q.0) (new, put_e M P new s a q.0 q.1.1))
       (λ u. (written _ _, put_every M P new Q written s a (suc r.0) (parts new 7 0 r.1.1) (every_parts M P new Q written s r.0 7 0 r.1.1 p.1)))
       (λ u. (written _ _, put_every M P new Q written s a r.0 r.1.1 p.1)),
-  rem-kept M P new Q written s r p,
+  rem_kept M P new Q written s r p,
 )
 
 module _ (M P : Type 0) where

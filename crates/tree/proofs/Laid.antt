@@ -79,12 +79,12 @@ module _ (M P : Type 0) where
   child_from (suc l) k m t h p =
       (index_from (Cell M P (suc l)) (Child M P (suc l)) (child_from l) k m t.1 (start_of l k m t.1 p.0) p.1, p.2, p.3)
 
-pub same-rule : (M P : Type 0) → SameRule M P
-same-rule M P zero t = (
+pub same_rule : (M P : Type 0) → SameRule M P
+same_rule M P zero t = (
   (λ w. (leaf_start 0 10000 t.1 w.0, leaf_to 0 10000 t.1 w.0, w.1, w.2)),
   (λ w. (leaf_from 0 10000 t.1 (leaf_next 0 10000 t.1 (omega arith) w.0) w.1, w.2, w.3)),
 )
-same-rule M P (suc l) t = (
+same_rule M P (suc l) t = (
   (λ w. (
     start_to (Cell M P (suc l)) l 0 10000 t.1 (omega arith) w.0,
     index_to (Cell M P (suc l)) (Child M P (suc l)) (λ i j x q. (cell_lt M P l i j x q, child_to M P l i j x q)) 0 10000 t.1 w.0,

@@ -24,19 +24,19 @@ module _ {X Y : Type 0} (c : Y → ℕ) (R : ℕ → X → List Y) where
       (λ u. omega (arith, flat_tally (f e.0 e.1) r, h e.0 e.1 q.0, t))
       (λ u. omega (arith, at_tally s n Q f h r q.1, tally_append c (R e.0 e.1) (flat R (at s f r)), t))
 
-  beside-tally : (s n : ℕ) (f : ℕ → X → List (ℕ × X)) (fR fL : (ℕ × X) → (ℕ × X) → List (ℕ × X)) → ((k : ℕ) (x : X) → tally c (flat R (f k x)) ≤ tally c (R k x) + n)
+  beside_tally : (s n : ℕ) (f : ℕ → X → List (ℕ × X)) (fR fL : (ℕ × X) → (ℕ × X) → List (ℕ × X)) → ((k : ℕ) (x : X) → tally c (flat R (f k x)) ≤ tally c (R k x) + n)
       → ((e d : ℕ × X) → tally c (flat R (fR e d)) ≤ tally c (R e.0 e.1) + tally c (R d.0 d.1) + n)
       → ((e d : ℕ × X) → tally c (flat R (fL e d)) ≤ tally c (R e.0 e.1) + tally c (R d.0 d.1) + n)
       → (e : ℕ × X) (r : List (ℕ × X)) → tally c (flat R (beside s f fR fL e r)) ≤ tally c (flat R (e ∷ r)) + n
-  beside-tally s n f fR fL h hR hL e [] = omega (arith, h e.0 e.1, tally_append c (R e.0 e.1) [])
-  beside-tally s n f fR fL h hR hL e (d ∷ r) =
+  beside_tally s n f fR fL h hR hL e [] = omega (arith, h e.0 e.1, tally_append c (R e.0 e.1) [])
+  beside_tally s n f fR fL h hR hL e (d ∷ r) =
       let t = tally_append c (R e.0 e.1) (flat R (d ∷ r)) in
       let v = tally_append c (R d.0 d.1) (flat R r) in
       let G : List (ℕ × X) → Type 0 = λ z. tally c (flat R z) ≤ tally c (flat R (e ∷ d ∷ r)) + n in
       cond_both (ltb s d.0) _ _ G
       (λ u. omega (arith, flat_tally (fR e d) r, hR e d, t, v))
       (λ u. cond_both (is_nil r) _ _ G (λ w. omega (arith, hL e d, t, v))
-      (λ w. omega (arith, beside-tally s n f fR fL h hR hL d r, tally_append c (R e.0 e.1) (flat R (beside s f fR fL d r)), t)))
+      (λ w. omega (arith, beside_tally s n f fR fL h hR hL d r, tally_append c (R e.0 e.1) (flat R (beside s f fR fL d r)), t)))
 
 module _ (M P : Type 0) (new : M) (c : M → ℕ) (one : c new ≡ 1) (s : ℕ) where
   abbrev T : (l : ℕ) → List (ℕ × Pay M P l) → ℕ
@@ -57,9 +57,9 @@ module _ (M P : Type 0) (new : M) (c : M → ℕ) (one : c new ≡ 1) (s : ℕ) 
   parts_tally l n k es =
       omega (arith, cut_tally c (λ k x. Marks M P l x) n es, one, tally_append c (flat (λ k x. Marks M P l x) (take n es)) (flat (λ k x. Marks M P (suc l) x) ((first (drop n es), (new, drop n es)) ∷ [])), tally_append c (flat (λ k x. Marks M P l x) (drop n es)) [])
 
-  kid-tally : (l n : ℕ) (g : List (ℕ × Pay M P l) → List (ℕ × Pay M P l)) → ((es : List (ℕ × Pay M P l)) → T l (g es) ≤ T l es + n) → (k : ℕ) (t : Tree M P l) → T (suc l) (kid new s g k t) ≤ tally c (Marks M P (suc l) t) + (n + 2)
+  kid_tally : (l n : ℕ) (g : List (ℕ × Pay M P l) → List (ℕ × Pay M P l)) → ((es : List (ℕ × Pay M P l)) → T l (g es) ≤ T l es + n) → (k : ℕ) (t : Tree M P l) → T (suc l) (kid new s g k t) ≤ tally c (Marks M P (suc l) t) + (n + 2)
   unfolding New
-  kid-tally l n g h k t =
+  kid_tally l n g h k t =
       cond_both (eqb (length t.1) 15) _ _ (λ z. T (suc l) (at s (touch new g) z) ≤ tally c (Marks M P (suc l) t) + (n + 2))
       (λ u. omega (arith, parts_tally l 7 k t.1, at_tally c (λ k x. Marks M P (suc l) x) s n (New l) (touch new g) (touch_new l n g h) (parts new 7 k t.1) (refl, (refl, tt))))
       (λ u. omega (arith, touch_old l n g h k t, tally_append c (flat (λ k x. Marks M P (suc l) x) (touch new g k t)) []))
@@ -82,21 +82,21 @@ module _ (M P : Type 0) (new : M) (c : M → ℕ) (one : c new ≡ 1) (s : ℕ) 
   every_true [] = tt
   every_true (e ∷ r) = (tt, every_true r)
 
-  put-news : (a : P) (l : ℕ) (es : List (ℕ × Pay M P l)) → T l (put_e M P new s a l es) ≤ T l es + 2 * l
-  put-news a zero es = omega (arith, leaf_tally (ins s a es))
-  put-news a (suc l) es =
-      omega (arith, at_tally c (λ k x. Marks M P (suc l) x) s (2 * l + 2) (λ _. Unit {0}) (kid new s (put_e M P new s a l)) (λ k x q. kid-tally l (2 * l) (put_e M P new s a l) (put-news a l) k x) es (every_true es))
+  put_news : (a : P) (l : ℕ) (es : List (ℕ × Pay M P l)) → T l (put_e M P new s a l es) ≤ T l es + 2 * l
+  put_news a zero es = omega (arith, leaf_tally (ins s a es))
+  put_news a (suc l) es =
+      omega (arith, at_tally c (λ k x. Marks M P (suc l) x) s (2 * l + 2) (λ _. Unit {0}) (kid new s (put_e M P new s a l)) (λ k x q. kid_tally l (2 * l) (put_e M P new s a l) (put_news a l) k x) es (every_true es))
 
   -- a full root, split
-  raised-news : (a : P) (l : ℕ) (es : List (ℕ × Pay M P l)) → length es ≡ 15 → T (suc l) (put_e M P new s a (suc l) (parts new 7 0 es)) ≤ T l es + (2 * l + 2)
-  raised-news a l es n =
+  raised_news : (a : P) (l : ℕ) (es : List (ℕ × Pay M P l)) → length es ≡ 15 → T (suc l) (put_e M P new s a (suc l) (parts new 7 0 es)) ≤ T l es + (2 * l + 2)
+  raised_news a l es n =
       omega (
         arith,
         parts_tally l 7 0 es,
         at_tally c (λ k x. Marks M P (suc l) x) s (2 * l) (λ t. New l t × (length t.1 ≡ 15 → ⊥)) (kid new s (put_e M P new s a l))
             (λ k t q. cond_both (eqb (length t.1) 15) _ _ (λ z. T (suc l) (at s (touch new (put_e M P new s a l)) z) ≤ tally c (Marks M P (suc l) t) + 2 * l)
             (λ u. absurd (q.1 (eqb-true (length t.1) 15 u)))
-            (λ u. omega (arith, touch_new l (2 * l) (put_e M P new s a l) (put-news a l) k t q.0, tally_append c (flat (λ k x. Marks M P (suc l) x) (touch new (put_e M P new s a l) k t)) [])))
+            (λ u. omega (arith, touch_new l (2 * l) (put_e M P new s a l) (put_news a l) k t q.0, tally_append c (flat (λ k x. Marks M P (suc l) x) (touch new (put_e M P new s a l) k t)) [])))
             (parts new 7 0 es) ((new_is l (take 7 es), λ q. omega (arith, length-take 7 es)), ((new_is l (drop 7 es), λ q. omega (arith, length-drop 7 es)), tt)),
       )
 
@@ -115,9 +115,9 @@ module _ (M P : Type 0) (new : M) (c : M → ℕ) (one : c new ≡ 1) (s : ℕ) 
         tally_append c (Marks M P (suc l) d.1) [],
       )
 
-  right-tally : (l n : ℕ) (g : List (ℕ × Pay M P l) → List (ℕ × Pay M P l)) → ((es : List (ℕ × Pay M P l)) → T l (g es) ≤ T l es + n) → (e d : ℕ × Tree M P l)
+  right_tally : (l n : ℕ) (g : List (ℕ × Pay M P l) → List (ℕ × Pay M P l)) → ((es : List (ℕ × Pay M P l)) → T l (g es) ≤ T l es + n) → (e d : ℕ × Tree M P l)
       → T (suc l) (at s (touch new g) (ready_right new e d)) ≤ tally c (Marks M P (suc l) e.1) + tally c (Marks M P (suc l) d.1) + (n + 2)
-  right-tally l n g h e d =
+  right_tally l n g h e d =
       let xs = e.1.1 in
       let ys = d.1.1 in
       let R = λ (k : ℕ) (x : Pay M P l). Marks M P l x in
@@ -128,9 +128,9 @@ module _ (M P : Type 0) (new : M) (c : M → ℕ) (one : c new ≡ 1) (s : ℕ) 
       (λ u. pairs l e d ((e.0, (new, xs ++ take 1 ys)) ∷ (first (drop 1 ys), (new, drop 1 ys)) ∷ []) n g h (new_is l (xs ++ take 1 ys), (new_is l (drop 1 ys), tt)) (omega (arith, two_tally l e.0 (first (drop 1 ys)) (xs ++ take 1 ys) (drop 1 ys), flat_tally c R xs (take 1 ys), cut_tally c R 1 ys))))
       (λ t. both_old l e d n g h)
 
-  left-tally : (l n : ℕ) (g : List (ℕ × Pay M P l) → List (ℕ × Pay M P l)) → ((es : List (ℕ × Pay M P l)) → T l (g es) ≤ T l es + n) → (e d : ℕ × Tree M P l)
+  left_tally : (l n : ℕ) (g : List (ℕ × Pay M P l) → List (ℕ × Pay M P l)) → ((es : List (ℕ × Pay M P l)) → T l (g es) ≤ T l es + n) → (e d : ℕ × Tree M P l)
       → T (suc l) (at s (touch new g) (ready_left new e d)) ≤ tally c (Marks M P (suc l) e.1) + tally c (Marks M P (suc l) d.1) + (n + 2)
-  left-tally l n g h e d =
+  left_tally l n g h e d =
       let xs = e.1.1 in
       let ys = d.1.1 in
       let k = length xs - 1 in
@@ -149,8 +149,8 @@ module _ (M P : Type 0) (new : M) (c : M → ℕ) (one : c new ≡ 1) (s : ℕ) 
       let g = rem_e M P new s l in
       omega (
         arith,
-        beside-tally c (λ k x. Marks M P (suc l) x) s (2 * l + 2) (touch new g) (λ e d. at s (touch new g) (ready_right new e d)) (λ e d. at s (touch new g) (ready_left new e d))
-            (λ k t. omega (arith, touch_old l (2 * l) g (rem_news l) k t)) (right-tally l (2 * l) g (rem_news l)) (left-tally l (2 * l) g (rem_news l)) e r,
+        beside_tally c (λ k x. Marks M P (suc l) x) s (2 * l + 2) (touch new g) (λ e d. at s (touch new g) (ready_right new e d)) (λ e d. at s (touch new g) (ready_left new e d))
+            (λ k t. omega (arith, touch_old l (2 * l) g (rem_news l) k t)) (right_tally l (2 * l) g (rem_news l)) (left_tally l (2 * l) g (rem_news l)) e r,
       )
 
   lower_tally : (l : ℕ) (t : Tree M P l) → tally c (blocks M P (lower M P l t).0 (lower M P l t).1) ≤ tally c (blocks M P l t)
@@ -162,15 +162,15 @@ module _ (M P : Type 0) (new : M) (c : M → ℕ) (one : c new ≡ 1) (s : ℕ) 
       go (e ∷ []) = omega (arith, tally_append c (flat (λ k x. Marks M P l x) e.1.1) [])
       go (e ∷ d ∷ r) = omega arith
 
-  put-root-news : (a : P) (r : Root M P) → tally c (blocks M P (put_root M P new s a r).0 (put_root M P new s a r).1) ≤ tally c (blocks M P r.0 r.1) + (2 * suc r.0 + 1)
-  put-root-news a r =
+  put_root_news : (a : P) (r : Root M P) → tally c (blocks M P (put_root M P new s a r).0 (put_root M P new s a r).1) ≤ tally c (blocks M P r.0 r.1) + (2 * suc r.0 + 1)
+  put_root_news a r =
       cond_both (eqb (length r.1.1) 15) (suc r.0, (new, parts new 7 0 r.1.1)) r
       (λ (q : Root M P). tally c (blocks M P q.0 (new, put_e M P new s a q.0 q.1.1)) ≤ tally c (blocks M P r.0 r.1) + (2 * suc r.0 + 1))
-      (λ u. omega (arith, one, raised-news a r.0 r.1.1 (eqb-true (length r.1.1) 15 u)))
-      (λ u. omega (arith, one, put-news a r.0 r.1.1))
+      (λ u. omega (arith, one, raised_news a r.0 r.1.1 (eqb-true (length r.1.1) 15 u)))
+      (λ u. omega (arith, one, put_news a r.0 r.1.1))
 
   pub rem_root_news : (r : Root M P) → tally c (blocks M P (rem_root M P new s r).0 (rem_root M P new s r).1) ≤ tally c (blocks M P r.0 r.1) + (2 * suc r.0 + 1)
   rem_root_news r = omega (arith, one, lower_tally r.0 (new, rem_e M P new s r.0 r.1.1), rem_news r.0 r.1.1)
 
 pub few_new : (M P : Type 0) → FewNew M P
-few_new M P new c one s a r w = (put-root-news M P new c one s a r, rem_root_news M P new c one s r)
+few_new M P new c one s a r w = (put_root_news M P new c one s a r, rem_root_news M P new c one s r)

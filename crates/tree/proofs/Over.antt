@@ -1,7 +1,7 @@
 -- Marks and values do not steer put and remove.
 use Rattle.std.proofs.Common.{◌≡◌, ℕ, zero, suc, ◌+◌, ◌-◌, Bool, true, false, cond, eqb, ltb, List, [], ◌∷◌, ◌++◌, length, take, drop, refl, ap, ◌∙◌}
 use Rattle.tree.specs.Node.{ins, del, ahead, is_nil, first, at, beside, Seg, flat, map_e, parts, opened, touch, kid, ready_right, ready_left}
-use Rattle.tree.specs.Tree.{Pay, Tree, Gap, Rows, Cell, over, over_root, put_e, rem_e, Root, raise, put_root, only, lower, rem_root, Natural, Over-rows}
+use Rattle.tree.specs.Tree.{Pay, Tree, Gap, Rows, Cell, over, over_root, put_e, rem_e, Root, raise, put_root, only, lower, rem_root, Natural, OverRows}
 
 pub cond_map : {A B : Type 0} (h : A → B) (b : Bool) (x y : A) (u v : B) → h x ≡ u → h y ≡ v → h (cond b x y) ≡ cond b u v
 cond_map h true x y u v p q = p
@@ -30,39 +30,39 @@ module _ {X Y : Type 0} (F : X → Y) where
   map_first [] = refl
   map_first (e ∷ r) = refl
 
-  pub map-ahead : (s : ℕ) (xs : List (ℕ × X)) → ahead s (map_e F xs) ≡ ahead s xs
-  map-ahead s [] = refl
-  map-ahead s (e ∷ r) = refl
+  pub map_ahead : (s : ℕ) (xs : List (ℕ × X)) → ahead s (map_e F xs) ≡ ahead s xs
+  map_ahead s [] = refl
+  map_ahead s (e ∷ r) = refl
 
   map_nil : (xs : List (ℕ × X)) → is_nil (map_e F xs) ≡ is_nil xs
   map_nil [] = refl
   map_nil (e ∷ r) = refl
 
   -- one test on both sides
-  map-cond : (b : Bool) (x y : List (ℕ × X)) (u v : List (ℕ × Y)) → map_e F x ≡ u → map_e F y ≡ v → map_e F (cond b x y) ≡ cond b u v
-  map-cond b x y u v p q = cond_map (map_e F) b x y u v p q
+  map_cond : (b : Bool) (x y : List (ℕ × X)) (u v : List (ℕ × Y)) → map_e F x ≡ u → map_e F y ≡ v → map_e F (cond b x y) ≡ cond b u v
+  map_cond b x y u v p q = cond_map (map_e F) b x y u v p q
 
   pub map_ins : (s : ℕ) (a : X) (xs : List (ℕ × X)) → map_e F (ins s a xs) ≡ ins s (F a) (map_e F xs)
   map_ins s a [] = refl
-  map_ins s a (e ∷ r) = map-cond (ltb s e.0) _ _ _ _ refl (map-cond (ltb e.0 s) _ _ _ _ (ap (λ (z : List (ℕ × Y)). (e.0, F e.1) ∷ z) (map_ins s a r)) refl)
+  map_ins s a (e ∷ r) = map_cond (ltb s e.0) _ _ _ _ refl (map_cond (ltb e.0 s) _ _ _ _ (ap (λ (z : List (ℕ × Y)). (e.0, F e.1) ∷ z) (map_ins s a r)) refl)
 
   pub map_del : (s : ℕ) (xs : List (ℕ × X)) → map_e F (del s xs) ≡ del s (map_e F xs)
   map_del s [] = refl
-  map_del s (e ∷ r) = map-cond (eqb s e.0) _ _ _ _ refl (ap (λ (z : List (ℕ × Y)). (e.0, F e.1) ∷ z) (map_del s r))
+  map_del s (e ∷ r) = map_cond (eqb s e.0) _ _ _ _ refl (ap (λ (z : List (ℕ × Y)). (e.0, F e.1) ∷ z) (map_del s r))
 
   pub map_at_lem : (s : ℕ) (f : ℕ → X → List (ℕ × X)) (f' : ℕ → Y → List (ℕ × Y)) → ((k : ℕ) (x : X) → map_e F (f k x) ≡ f' k (F x)) → (xs : List (ℕ × X)) → map_e F (at s f xs) ≡ at s f' (map_e F xs)
   map_at_lem s f f' h [] = refl
   map_at_lem s f f' h (e ∷ r) =
-      rw (map-ahead s r)
-      (map-cond (ahead s r) _ _ _ _ (map-append (f e.0 e.1) r ∙ ap (λ (z : List (ℕ × Y)). z ++ map_e F r) (h e.0 e.1)) (ap (λ (z : List (ℕ × Y)). (e.0, F e.1) ∷ z) (map_at_lem s f f' h r)))
+      rw (map_ahead s r)
+      (map_cond (ahead s r) _ _ _ _ (map-append (f e.0 e.1) r ∙ ap (λ (z : List (ℕ × Y)). z ++ map_e F r) (h e.0 e.1)) (ap (λ (z : List (ℕ × Y)). (e.0, F e.1) ∷ z) (map_at_lem s f f' h r)))
 
   map_beside : (s : ℕ) (f : ℕ → X → List (ℕ × X)) (fR fL : (ℕ × X) → (ℕ × X) → List (ℕ × X)) (f' : ℕ → Y → List (ℕ × Y)) (fR' fL' : (ℕ × Y) → (ℕ × Y) → List (ℕ × Y))
       → ((k : ℕ) (x : X) → map_e F (f k x) ≡ f' k (F x)) → ((e d : ℕ × X) → map_e F (fR e d) ≡ fR' (e.0, F e.1) (d.0, F d.1)) → ((e d : ℕ × X) → map_e F (fL e d) ≡ fL' (e.0, F e.1) (d.0, F d.1))
       → (e : ℕ × X) (r : List (ℕ × X)) → map_e F (beside s f fR fL e r) ≡ beside s f' fR' fL' (e.0, F e.1) (map_e F r)
   map_beside s f fR fL f' fR' fL' h hR hL e [] = h e.0 e.1
   map_beside s f fR fL f' fR' fL' h hR hL e (d ∷ r) =
-      map-cond (ltb s d.0) _ _ _ _ (map-append (fR e d) r ∙ ap (λ (z : List (ℕ × Y)). z ++ map_e F r) (hR e d))
-      (rw (map_nil r) (map-cond (is_nil r) _ _ _ _ (hL e d) (ap (λ (z : List (ℕ × Y)). (e.0, F e.1) ∷ z) (map_beside s f fR fL f' fR' fL' h hR hL d r))))
+      map_cond (ltb s d.0) _ _ _ _ (map-append (fR e d) r ∙ ap (λ (z : List (ℕ × Y)). z ++ map_e F r) (hR e d))
+      (rw (map_nil r) (map_cond (is_nil r) _ _ _ _ (hL e d) (ap (λ (z : List (ℕ × Y)). (e.0, F e.1) ∷ z) (map_beside s f fR fL f' fR' fL' h hR hL d r))))
 
 module _ {M P M' P' : Type 0} (g : M → M') (f : P → P') (new : M) (s : ℕ) where
   abbrev on : (l : ℕ) → List (ℕ × Pay M P l) → List (ℕ × Pay M' P' l)
@@ -75,7 +75,7 @@ module _ {M P M' P' : Type 0} (g : M → M') (f : P → P') (new : M) (s : ℕ) 
   on_touch l u u' h k t = rw (h t.1)
 
   on_opened : (l k : ℕ) (t : Tree M P l) → on (suc l) (opened new k t) ≡ opened (g new) k (over g f (suc l) t)
-  on_opened l k t = rw (map_length (over g f l) t.1) (map-cond (over g f (suc l)) (eqb (length t.1) 15) _ _ _ _ (on_parts l 7 k t.1) refl)
+  on_opened l k t = rw (map_length (over g f l) t.1) (map_cond (over g f (suc l)) (eqb (length t.1) 15) _ _ _ _ (on_parts l 7 k t.1) refl)
 
   put_on : (a : P) (l : ℕ) (es : List (ℕ × Pay M P l)) → on l (put_e M P new s a l es) ≡ put_e M' P' (g new) s (f a) l (on l es)
   put_on a zero es = map_ins f s a es
@@ -86,25 +86,25 @@ module _ {M P M' P' : Type 0} (g : M → M') (f : P → P') (new : M) (s : ℕ) 
       (λ k t. map_at_lem (over g f (suc l)) s (touch new u) (touch (g new) u') (on_touch l u u' (put_on a l)) (opened new k t) ∙ ap (at s (touch (g new) u')) (on_opened l k t))
       es
 
-  on-right : (l : ℕ) (e d : ℕ × Tree M P l) → on (suc l) (ready_right new e d) ≡ ready_right (g new) (e.0, over g f (suc l) e.1) (d.0, over g f (suc l) d.1)
-  on-right l e d =
+  on_right : (l : ℕ) (e d : ℕ × Tree M P l) → on (suc l) (ready_right new e d) ≡ ready_right (g new) (e.0, over g f (suc l) e.1) (d.0, over g f (suc l) d.1)
+  on_right l e d =
       let F = over g f l in
       let xs = e.1.1 in
       let ys = d.1.1 in
       rw (map_length F xs, map_length F ys)
-      (map-cond (over g f (suc l)) (eqb (length xs) 7) _ _ _ _
-      (map-cond (over g f (suc l)) (eqb (length ys) 7) _ _ _ _ (rw (map-append F xs ys)) (rw (map-append F xs (take 1 ys), ← map_drop F 1 ys, ← map_take F 1 ys, map_first F (drop 1 ys))))
+      (map_cond (over g f (suc l)) (eqb (length xs) 7) _ _ _ _
+      (map_cond (over g f (suc l)) (eqb (length ys) 7) _ _ _ _ (rw (map-append F xs ys)) (rw (map-append F xs (take 1 ys), ← map_drop F 1 ys, ← map_take F 1 ys, map_first F (drop 1 ys))))
       refl)
 
-  on-left : (l : ℕ) (e d : ℕ × Tree M P l) → on (suc l) (ready_left new e d) ≡ ready_left (g new) (e.0, over g f (suc l) e.1) (d.0, over g f (suc l) d.1)
-  on-left l e d =
+  on_left : (l : ℕ) (e d : ℕ × Tree M P l) → on (suc l) (ready_left new e d) ≡ ready_left (g new) (e.0, over g f (suc l) e.1) (d.0, over g f (suc l) d.1)
+  on_left l e d =
       let F = over g f l in
       let xs = e.1.1 in
       let ys = d.1.1 in
       let n = length xs - 1 in
       rw (map_length F xs, map_length F ys)
-      (map-cond (over g f (suc l)) (eqb (length ys) 7) _ _ _ _
-      (map-cond (over g f (suc l)) (eqb (length xs) 7) _ _ _ _ (rw (map-append F xs ys)) (rw (map-append F (drop n xs) ys, ← map_drop F n xs, ← map_take F n xs, map_first F (drop n xs))))
+      (map_cond (over g f (suc l)) (eqb (length ys) 7) _ _ _ _
+      (map_cond (over g f (suc l)) (eqb (length xs) 7) _ _ _ _ (rw (map-append F xs ys)) (rw (map-append F (drop n xs) ys, ← map_drop F n xs, ← map_take F n xs, map_first F (drop n xs))))
       refl)
 
   rem_on : (l : ℕ) (es : List (ℕ × Pay M P l)) → on l (rem_e M P new s l es) ≡ rem_e M' P' (g new) s l (on l es)
@@ -116,8 +116,8 @@ module _ {M P M' P' : Type 0} (g : M → M') (f : P → P') (new : M) (s : ℕ) 
       let w = on_touch l u u' (rem_on l) in
       map_beside (over g f (suc l)) s (touch new u) (λ e d. at s (touch new u) (ready_right new e d)) (λ e d. at s (touch new u) (ready_left new e d))
       (touch (g new) u') (λ e d. at s (touch (g new) u') (ready_right (g new) e d)) (λ e d. at s (touch (g new) u') (ready_left (g new) e d)) w
-      (λ e d. map_at_lem (over g f (suc l)) s (touch new u) (touch (g new) u') w (ready_right new e d) ∙ ap (at s (touch (g new) u')) (on-right l e d))
-      (λ e d. map_at_lem (over g f (suc l)) s (touch new u) (touch (g new) u') w (ready_left new e d) ∙ ap (at s (touch (g new) u')) (on-left l e d))
+      (λ e d. map_at_lem (over g f (suc l)) s (touch new u) (touch (g new) u') w (ready_right new e d) ∙ ap (at s (touch (g new) u')) (on_right l e d))
+      (λ e d. map_at_lem (over g f (suc l)) s (touch new u) (touch (g new) u') w (ready_left new e d) ∙ ap (at s (touch (g new) u')) (on_left l e d))
       e r
 
   abbrev root_of : (l : ℕ) → M' → List (ℕ × Pay M' P' l) → Root M' P'
@@ -138,8 +138,8 @@ module _ {M P M' P' : Type 0} (g : M → M') (f : P → P') (new : M) (s : ℕ) 
   on_lower zero t = refl
   on_lower (suc l) t = on_only l t.0 t.1
 
-  put-over : (a : P) (r : Root M P) → over_root g f (put_root M P new s a r) ≡ put_root M' P' (g new) s (f a) (over_root g f r)
-  put-over a r =
+  put_over : (a : P) (r : Root M P) → over_root g f (put_root M P new s a r) ≡ put_root M' P' (g new) s (f a) (over_root g f r)
+  put_over a r =
       let q = raise M P new r in
       ap (λ (z : List (ℕ × Pay M' P' q.0)). root_of q.0 (g new) z) (put_on a q.0 q.1.1)
       ∙ ap (λ (z : Root M' P'). root_of z.0 (g new) (put_e M' P' (g new) s (f a) z.0 z.1.1)) (on_raise r)
@@ -174,9 +174,9 @@ module _ {M P M' P' : Type 0} (g : M → M') (f : P → P') where
   rows_on (suc l) k t = flat_on (over g f l) (Rows M P l) (Rows M' P' l) (rows_on l) t.1
 
 pub natural : (M P M' P' : Type 0) → Natural M P M' P'
-natural M P M' P' g f new s a r = (put-over g f new s a r, rem_over g f new s r)
+natural M P M' P' g f new s a r = (put_over g f new s a r, rem_over g f new s r)
 
-pub over_rows : (M P M' P' : Type 0) → Over-rows M P M' P'
+pub over_rows : (M P M' P' : Type 0) → OverRows M P M' P'
 over_rows M P M' P' g f r = (
   flat_on g f (over g f r.0) (Rows M P r.0) (Rows M' P' r.0) (rows_on g f r.0) r.1.1,
   (λ w. (seg_map (Gap r.0) (Cell M P r.0) (Cell M' P' r.0) (over g f r.0) (cell_on g f r.0) 0 10000 r.1.1 w.0, rw (map_length (over g f r.0) r.1.1) w.1, rw (map_length (over g f r.0) r.1.1) w.2)),

@@ -3,16 +3,16 @@ use Rattle.std.proofs.Common.{◌≡◌, ℕ, zero, suc, ◌+◌, ◌-◌, ◌<�
 use Rattle.std.proofs.lemmas.Bool.{cond_both, eqb-true, eqb-false}
 use Rattle.tree.specs.Node.{del, first, at, Seg, Asc, flat, touch, ready_right, ready_left, shrink}
 use Rattle.tree.specs.Tree.{Pay, Tree, Gap, Enough, Rows, rows, Cell, Span, Wf, rem_e, only, lower, RemoveSound}
-use Rattle.tree.proofs.Segs.{seg_join, seg_le, at_seg, at_same, at_rows, flat_append, del_left, del_right, del_asc, del-length, beside_seg, beside_rows, beside-length}
-use Rattle.tree.proofs.Puts.{gap_trans, gap_le, enough, flat-id, cell_asc, span_cut}
+use Rattle.tree.proofs.Segs.{seg_join, seg_le, at_seg, at_same, at_rows, flat_append, del_left, del_right, del_asc, del_length, beside_seg, beside_rows, beside_length}
+use Rattle.tree.proofs.Puts.{gap_trans, gap_le, enough, flat_id, cell_asc, span_cut}
 
 module _ (M P : Type 0) where
   pub cell_le : (l k m : ℕ) (x : Pay M P l) → Cell M P l k m x → k ≤ m
   cell_le zero k m x p = omega (arith, p)
   cell_le (suc l) k m t p = seg_le (Gap l) (Cell M P l) (gap_le l) (cell_le l) k m t.1 p.0
 
-  span-le : (l lo hi : ℕ) (es : List (ℕ × Pay M P l)) → Span M P l lo hi es → lo ≤ hi
-  span-le l lo hi es p = seg_le (Gap l) (Cell M P l) (gap_le l) (cell_le l) lo hi es p
+  span_le : (l lo hi : ℕ) (es : List (ℕ × Pay M P l)) → Span M P l lo hi es → lo ≤ hi
+  span_le l lo hi es p = seg_le (Gap l) (Cell M P l) (gap_le l) (cell_le l) lo hi es p
 
   span_join : (l lo m hi : ℕ) (xs ys : List (ℕ × Pay M P l)) → Span M P l lo m xs → Span M P l m hi ys → Span M P l lo hi (xs ++ ys)
   span_join l lo m hi xs ys p q = seg_join (Gap l) (Cell M P l) (gap_trans l) lo m hi xs ys p q
@@ -40,14 +40,14 @@ module _ (M P : Type 0) where
         (
           first (drop 1 ys),
           ((span_join l e.0 d.0 _ xs (take 1 ys) p.0 c.0, omega arith, omega arith), λ a b. omega arith),
-          (refl, (m, ((c.1, omega arith, omega arith), λ a b. absurd (omega (arith, span-le l d.0 _ (take 1 ys) c.0))), refl)),
+          (refl, (m, ((c.1, omega arith, omega arith), λ a b. absurd (omega (arith, span_le l d.0 _ (take 1 ys) c.0))), refl)),
         ),
       )))
       (λ t. let n = eqb-false (length xs) 7 t in
       (refl, (d.0, (p, λ a b. omega arith), (refl, (m, (q, λ a b. absurd (omega arith)), refl)))))
 
-  left-seg : (l s m : ℕ) (new : M) (e d : ℕ × Tree M P l) → Cell M P (suc l) e.0 d.0 e.1 → Cell M P (suc l) d.0 m d.1 → d.0 ≤ s → Seg ◌≡◌ (Ready l s) e.0 m (ready_left new e d)
-  left-seg l s m new e d p q h =
+  left_seg : (l s m : ℕ) (new : M) (e d : ℕ × Tree M P l) → Cell M P (suc l) e.0 d.0 e.1 → Cell M P (suc l) d.0 m d.1 → d.0 ≤ s → Seg ◌≡◌ (Ready l s) e.0 m (ready_left new e d)
+  left_seg l s m new e d p q h =
       let xs = e.1.1 in
       let ys = d.1.1 in
       cond_both (eqb (length ys) 7) _ _ (λ z. Seg ◌≡◌ (Ready l s) e.0 m z)
@@ -65,15 +65,15 @@ module _ (M P : Type 0) where
         refl,
         (
           first (drop k xs),
-          ((c.0, omega arith, omega arith), λ a b. absurd (omega (arith, span-le l _ d.0 (drop k xs) c.1))),
+          ((c.0, omega arith, omega arith), λ a b. absurd (omega (arith, span_le l _ d.0 (drop k xs) c.1))),
           (refl, (m, ((span_join l _ d.0 m (drop k xs) ys c.1 q.0, omega arith, omega arith), λ a b. omega arith), refl)),
         ),
       )))
       (λ t. let n = eqb-false (length ys) 7 t in
       (refl, (d.0, (p, λ a b. absurd (omega arith)), (refl, (m, (q, λ a b. omega arith), refl)))))
 
-  right-rows : (l : ℕ) (new : M) (e d : ℕ × Tree M P l) → flat (Rows M P (suc l)) (ready_right new e d) ≡ flat (Rows M P l) e.1.1 ++ flat (Rows M P l) d.1.1
-  right-rows l new e d =
+  right_rows : (l : ℕ) (new : M) (e d : ℕ × Tree M P l) → flat (Rows M P (suc l)) (ready_right new e d) ≡ flat (Rows M P l) e.1.1 ++ flat (Rows M P l) d.1.1
+  right_rows l new e d =
       let R = Rows M P l in
       let F : List (ℕ × Pay M P l) → List (ℕ × P) = flat R in
       let xs = e.1.1 in
@@ -104,20 +104,20 @@ module _ (M P : Type 0) where
       let Q : List (ℕ × Tree M P l) → Type 0 = λ z. (1 ≤ length z) × (length z ≤ 2) in
       cond_both (eqb (length e.1.1) 7) _ _ Q (λ t. cond_both (eqb (length d.1.1) 7) _ _ Q (λ u. omega arith) (λ u. omega arith)) (λ t. omega arith)
 
-  left-length : (l : ℕ) (new : M) (e d : ℕ × Tree M P l) → (1 ≤ length (ready_left new e d)) × (length (ready_left new e d) ≤ 2)
-  left-length l new e d =
+  left_length : (l : ℕ) (new : M) (e d : ℕ × Tree M P l) → (1 ≤ length (ready_left new e d)) × (length (ready_left new e d) ≤ 2)
+  left_length l new e d =
       let Q : List (ℕ × Tree M P l) → Type 0 = λ z. (1 ≤ length z) × (length z ≤ 2) in
       cond_both (eqb (length d.1.1) 7) _ _ Q (λ t. cond_both (eqb (length e.1.1) 7) _ _ Q (λ u. omega arith) (λ u. omega arith)) (λ t. omega arith)
 
   module _ (new : M) (s : ℕ) where
     pub rem_length : (l : ℕ) (es : List (ℕ × Pay M P l)) → (length es ≤ suc (length (rem_e M P new s l es))) × (length (rem_e M P new s l es) ≤ length es)
-    rem_length zero es = del-length s es
+    rem_length zero es = del_length s es
     rem_length (suc l) [] = omega arith
     rem_length (suc l) (e ∷ r) =
         let g = rem_e M P new s l in
-        let n = beside-length s (touch new g) (λ e d. at s (touch new g) (ready_right new e d)) (λ e d. at s (touch new g) (ready_left new e d)) (λ k x. refl)
+        let n = beside_length s (touch new g) (λ e d. at s (touch new g) (ready_right new e d)) (λ e d. at s (touch new g) (ready_left new e d)) (λ k x. refl)
         (λ e d. omega (arith, at_same s (touch new g) (λ i x. refl) (ready_right new e d), right_length l new e d))
-        (λ e d. omega (arith, at_same s (touch new g) (λ i x. refl) (ready_left new e d), left-length l new e d)) e r in
+        (λ e d. omega (arith, at_same s (touch new g) (λ i x. refl) (ready_left new e d), left_length l new e d)) e r in
         (n.0, n.1)
 
     pub rem_span : (l lo hi : ℕ) (es : List (ℕ × Pay M P l)) → Enough l (length es) → Span M P l lo hi es → lo ≤ s → s < hi → Span M P l lo hi (rem_e M P new s l es)
@@ -132,11 +132,11 @@ module _ (M P : Type 0) where
         subst (λ (b : ℕ). Seg ◌≡◌ W b hi (shrink new s g (e ∷ r))) (sym p.0)
         (beside_seg W W s (touch new g) (λ e d. at s (touch new g) (ready_right new e d)) (λ e d. at s (touch new g) (ready_left new e d)) (λ k m x h. h)
         (λ m e d a b c h. at_seg (Ready l s) W s (touch new g) (λ i j z h. h.0) touched e.0 m (ready_right new e d) (right_seg l s m new e d a b h) c (omega (arith, cell_le (suc l) _ _ d.1 b)))
-        (λ m e d a b c h. at_seg (Ready l s) W s (touch new g) (λ i j z h. h.0) touched e.0 m (ready_left new e d) (left-seg l s m new e d a b c) (omega (arith, cell_le (suc l) _ _ e.1 a)) h)
+        (λ m e d a b c h. at_seg (Ready l s) W s (touch new g) (λ i j z h. h.0) touched e.0 m (ready_left new e d) (left_seg l s m new e d a b c) (omega (arith, cell_le (suc l) _ _ e.1 a)) h)
         hi e r (omega arith) (refl, p.1) (omega (arith, p.0)) v)
 
     pub rem_rows : (l lo hi : ℕ) (es : List (ℕ × Pay M P l)) → Enough l (length es) → Span M P l lo hi es → lo ≤ s → s < hi → flat (Rows M P l) (rem_e M P new s l es) ≡ del s (flat (Rows M P l) es)
-    rem_rows zero lo hi es n p u v = flat-id (del s es) ∙ ap (del s) (sym (flat-id es))
+    rem_rows zero lo hi es n p u v = flat_id (del s es) ∙ ap (del s) (sym (flat_id es))
     rem_rows (suc l) lo hi [] n p u v = refl
     rem_rows (suc l) lo hi (e ∷ r) n p u v =
         let g = rem_e M P new s l in
@@ -147,8 +147,8 @@ module _ (M P : Type 0) where
         let asc : (k m : ℕ) (z : Tree M P l) → Ready l s k m z → Asc k m (R k z) = λ k m z h. cell_asc M P (suc l) k m z h.0 in
         beside_rows W R s (del s) (del_left s) (del_right s) (cell_asc M P (suc l)) (touch new g) (λ e d. at s (touch new g) (ready_right new e d)) (λ e d. at s (touch new g) (ready_left new e d))
         (λ m e d a b c h. at_rows (Ready l s) R s (del s) (del_left s) (del_right s) asc (touch new g) touched e.0 m (ready_right new e d) (omega (arith, right_length l new e d)) (right_seg l s m new e d a b h) c (omega (arith, cell_le (suc l) _ _ d.1 b))
-        ∙ ap (del s) (right-rows l new e d))
-        (λ m e d a b c h. at_rows (Ready l s) R s (del s) (del_left s) (del_right s) asc (touch new g) touched e.0 m (ready_left new e d) (omega (arith, left-length l new e d)) (left-seg l s m new e d a b c) (omega (arith, cell_le (suc l) _ _ e.1 a)) h
+        ∙ ap (del s) (right_rows l new e d))
+        (λ m e d a b c h. at_rows (Ready l s) R s (del s) (del_left s) (del_right s) asc (touch new g) touched e.0 m (ready_left new e d) (omega (arith, left_length l new e d)) (left_seg l s m new e d a b c) (omega (arith, cell_le (suc l) _ _ e.1 a)) h
         ∙ ap (del s) (left_rows l new e d))
         hi e r (omega arith) (refl, p.1) (omega (arith, p.0)) v
 
@@ -176,8 +176,8 @@ module _ (M P : Type 0) where
   enough_two zero n h p = absurd (omega arith)
   enough_two (suc l) n h p = h
 
-pub remove-sound : (M P : Type 0) → RemoveSound M P
-remove-sound M P new s r h w =
+pub remove_sound : (M P : Type 0) → RemoveSound M P
+remove_sound M P new s r h w =
     let es = rem_e M P new s r.0 r.1.1 in
     let n = rem_length M P new s r.0 r.1.1 in (
       lower_wf M P r.0 (new, es) (rem_span M P new s r.0 0 10000 r.1.1 w.1 w.0 (omega arith) h) (λ p. omega (arith, n.0, enough_two M P r.0 _ w.1 p)) (omega (arith, n.1, w.2)),

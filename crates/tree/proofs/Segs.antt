@@ -57,10 +57,10 @@ at_same s f fl (e ∷ r) =
     cond_both (ahead s r) (f e.0 e.1 ++ r) (e ∷ at s f r) (λ z. length z ≡ suc (length r))
     (λ t. omega (arith, length-append (f e.0 e.1) r, fl e.0 e.1)) (λ t. omega (arith, at_same s f fl r))
 
-pub ins-length : {X : Type 0} (s : ℕ) (a : X) (es : List (ℕ × X)) → (length es ≤ length (ins s a es)) × (length (ins s a es) ≤ suc (length es))
-ins-length s a [] = omega arith
-ins-length {X} s a (e ∷ r) =
-    let I = ins-length s a r in
+pub ins_length : {X : Type 0} (s : ℕ) (a : X) (es : List (ℕ × X)) → (length es ≤ length (ins s a es)) × (length (ins s a es) ≤ suc (length es))
+ins_length s a [] = omega arith
+ins_length {X} s a (e ∷ r) =
+    let I = ins_length s a r in
     let Q : List (ℕ × X) → Type 0 = λ z. (suc (length r) ≤ length z) × (length z ≤ suc (suc (length r))) in
     cond_both (ltb s e.0) _ _ Q (λ t. omega arith)
     (λ t. cond_both (ltb e.0 s) (e ∷ ins s a r) ((s, a) ∷ r) Q (λ u. omega (arith, I)) (λ u. omega arith))
@@ -119,14 +119,14 @@ module _ {X : Type 0} (s : ℕ) where
       let i = del_left p.1.0 m r ys p.1.2 h in
       rw (ne_eqb s e.0 (omega arith), i)
 
-  del-above : (m hi : ℕ) (zs : List (ℕ × X)) → Asc m hi zs → s < m → del s zs ≡ zs
-  del-above m hi [] p h = refl
-  del-above m hi (e ∷ r) p h =
-      let i = del-above p.1.0 hi r p.1.2 (omega (arith, p.0, p.1.1)) in
+  del_above : (m hi : ℕ) (zs : List (ℕ × X)) → Asc m hi zs → s < m → del s zs ≡ zs
+  del_above m hi [] p h = refl
+  del_above m hi (e ∷ r) p h =
+      let i = del_above p.1.0 hi r p.1.2 (omega (arith, p.0, p.1.1)) in
       rw (ne_eqb s e.0 (omega (arith, p.0)), i)
 
   pub del_right : Right {X = X} s (del s)
-  del_right m hi [] zs p h = del-above m hi zs p h
+  del_right m hi [] zs p h = del_above m hi zs p h
   del_right m hi (e ∷ r) zs p h =
       let i = del_right m hi r zs p h in
       cond_cong (λ z. z ++ zs) (eqb s e.0) _ _ _ _ refl (ap (λ (z : List (ℕ × X)). e ∷ z) i)
@@ -164,9 +164,9 @@ module _ {X P : Type 0} (W : ℕ → ℕ → X → Type 0) (R : ℕ → X → Li
       ahead_more [] t = absurd (true≢false t)
       ahead_more (e ∷ r) t = omega arith
 
-pub asc-length : {X : Type 0} (lo hi : ℕ) (es : List (ℕ × X)) → Asc lo hi es → lo + length es ≤ hi
-asc-length lo hi [] p = omega (arith, p)
-asc-length lo hi (e ∷ r) p = omega (arith, p.0, p.1.1, asc-length p.1.0 hi r p.1.2)
+pub asc_length : {X : Type 0} (lo hi : ℕ) (es : List (ℕ × X)) → Asc lo hi es → lo + length es ≤ hi
+asc_length lo hi [] p = omega (arith, p)
+asc_length lo hi (e ∷ r) p = omega (arith, p.0, p.1.1, asc_length p.1.0 hi r p.1.2)
 
 -- each entry has at least c rows
 pub flat_least : {X Y : Type 0} (G : ℕ → ℕ → Type 0) (W : ℕ → ℕ → X → Type 0) (R : ℕ → X → List Y) (c : ℕ) → ((k m : ℕ) (x : X) → W k m x → c ≤ length (R k x)) → (lo hi : ℕ) (es : List (ℕ × X)) → Seg G W lo hi es → length es * c ≤ length (flat R es)
@@ -221,22 +221,22 @@ module _ {X P : Type 0} (W : ℕ → ℕ → X → Type 0) (R : ℕ → X → Li
       last (x ∷ r) v m a b c g = absurd (true≢false (sym v))
 
 -- how many entries removal leaves
-pub beside-length : {X : Type 0} (s : ℕ) (f : ℕ → X → List (ℕ × X)) (fR fL : (ℕ × X) → (ℕ × X) → List (ℕ × X)) → ((k : ℕ) (x : X) → length (f k x) ≡ 1) → ((e d : ℕ × X) → (1 ≤ length (fR e d)) × (length (fR e d) ≤ 2)) → ((e d : ℕ × X) → (1 ≤ length (fL e d)) × (length (fL e d) ≤ 2)) → (e : ℕ × X) (r : List (ℕ × X)) → (suc (length r) ≤ suc (length (beside s f fR fL e r))) × (length (beside s f fR fL e r) ≤ suc (length r)) × (1 ≤ length (beside s f fR fL e r))
-beside-length s f fR fL a b c e [] = omega (arith, a e.0 e.1)
-beside-length {X} s f fR fL a b c e (d ∷ r) =
+pub beside_length : {X : Type 0} (s : ℕ) (f : ℕ → X → List (ℕ × X)) (fR fL : (ℕ × X) → (ℕ × X) → List (ℕ × X)) → ((k : ℕ) (x : X) → length (f k x) ≡ 1) → ((e d : ℕ × X) → (1 ≤ length (fR e d)) × (length (fR e d) ≤ 2)) → ((e d : ℕ × X) → (1 ≤ length (fL e d)) × (length (fL e d) ≤ 2)) → (e : ℕ × X) (r : List (ℕ × X)) → (suc (length r) ≤ suc (length (beside s f fR fL e r))) × (length (beside s f fR fL e r) ≤ suc (length r)) × (1 ≤ length (beside s f fR fL e r))
+beside_length s f fR fL a b c e [] = omega (arith, a e.0 e.1)
+beside_length {X} s f fR fL a b c e (d ∷ r) =
     let Q : List (ℕ × X) → Type 0 = λ z. (suc (suc (length r)) ≤ suc (length z)) × (length z ≤ suc (suc (length r))) × (1 ≤ length z) in
     cond_both (ltb s d.0) _ _ Q
     (λ t. omega (arith, length-append (fR e d) r, b e d))
-    (λ t. cond_both (is_nil r) _ _ Q (λ u. omega (arith, c e d, nil_length r u)) (λ u. omega (arith, beside-length s f fR fL a b c d r)))
+    (λ t. cond_both (is_nil r) _ _ Q (λ u. omega (arith, c e d, nil_length r u)) (λ u. omega (arith, beside_length s f fR fL a b c d r)))
   where
     nil_length : (r : List (ℕ × X)) → is_nil r ≡ true → length r ≡ 0
     nil_length [] u = refl
     nil_length (x ∷ r) u = absurd (true≢false (sym u))
 
-pub del-length : {X : Type 0} (s : ℕ) (es : List (ℕ × X)) → (length es ≤ suc (length (del s es))) × (length (del s es) ≤ length es)
-del-length s [] = omega arith
-del-length {X} s (e ∷ r) =
-    let I = del-length s r in
+pub del_length : {X : Type 0} (s : ℕ) (es : List (ℕ × X)) → (length es ≤ suc (length (del s es))) × (length (del s es) ≤ length es)
+del_length s [] = omega arith
+del_length {X} s (e ∷ r) =
+    let I = del_length s r in
     cond_both (eqb s e.0) r (e ∷ del s r) (λ (z : List (ℕ × X)). (suc (length r) ≤ suc (length z)) × (length z ≤ suc (length r))) (λ t. omega arith) (λ t. omega (arith, I))
 
 pub asc_from : {X : Type 0} (lo k hi : ℕ) (es : List (ℕ × X)) → lo ≤ k → Asc k hi es → Asc lo hi es

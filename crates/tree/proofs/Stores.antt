@@ -3,8 +3,8 @@ use Rattle.std.proofs.Common.{◌≡◌, ℕ, zero, suc, ◌+◌, ◌-◌, ◌*�
 use Rattle.tree.specs.Node.{ins, del, flat, tally, Every, map_e}
 use Rattle.tree.specs.Tree.{Pay, Tree, Root, rows, Wf, Marks, blocks, All, over, over_root}
 use Rattle.tree.specs.Stored.{forget, same, is_new, is_fresh, PutNumbered, RemoveNumbered}
-use Rattle.tree.proofs.Puts.{put-sound}
-use Rattle.tree.proofs.Removes.{remove-sound}
+use Rattle.tree.proofs.Puts.{put_sound}
+use Rattle.tree.proofs.Removes.{remove_sound}
 use Rattle.tree.proofs.News.{few_new, rem_root_news, tally_append}
 use Rattle.tree.proofs.Over.{over_rows}
 
@@ -33,8 +33,8 @@ tally_zero : {Y : Type 0} (ys : List Y) → tally (λ y. 0) ys ≡ 0
 tally_zero [] = refl
 tally_zero (y ∷ ys) = omega (arith, tally_zero ys)
 
-is-new : (fresh : ℕ → Bool) (b : ℕ) → is_new (forget fresh b) ≡ is_fresh fresh b
-is-new fresh b = go (fresh b)
+is_new_lem : (fresh : ℕ → Bool) (b : ℕ) → is_new (forget fresh b) ≡ is_fresh fresh b
+is_new_lem fresh b = go (fresh b)
   where
     go : (x : Bool) → is_new (cond x None (Some b)) ≡ cond x 1 0
     go true = refl
@@ -50,26 +50,26 @@ put_numbered P fresh s a t u h w e =
     let t' : Root O P = over_root Some same t in
     let v = over_rows ℕ P O P Some same t in
     let x = over_rows ℕ P O P (forget fresh) same u in
-    let S = put-sound O P None s a t' h (v.1 w) in
+    let S = put_sound O P None s a t' h (v.1 w) in
     let n = (few_new O P None is_new refl s a t' (v.1 w)).0 in
     let n' : tally is_new (blocks O P u.0 (over_root (forget fresh) same u).1) ≤ tally is_new (blocks O P t.0 t'.1) + (2 * suc t.0 + 1)
     = subst (λ (z : Root O P). tally is_new (blocks O P z.0 z.1) ≤ tally is_new (blocks O P t.0 t'.1) + (2 * suc t.0 + 1)) (sym e) n in (
       x.2 (subst (λ (z : Root O P). Wf O P z.0 z.1) (sym e) S.0),
       sym (map_same (rows ℕ P u.0 u.1)) ∙ sym x.0 ∙ ap (λ (z : Root O P). rows O P z.0 z.1) e ∙ S.1 ∙ ap (ins s a) (v.0 ∙ map_same (rows ℕ P t.0 t.1)),
-      omega (arith, n', over_tally (forget fresh) same (is_fresh fresh) is_new (is-new fresh) (suc u.0) u.1, over_tally Some same (λ b. 0) is_new (λ b. refl) (suc t.0) t.1, tally_zero (blocks ℕ P t.0 t.1)),
+      omega (arith, n', over_tally (forget fresh) same (is_fresh fresh) is_new (is_new_lem fresh) (suc u.0) u.1, over_tally Some same (λ b. 0) is_new (λ b. refl) (suc t.0) t.1, tally_zero (blocks ℕ P t.0 t.1)),
     )
 
-pub remove-numbered : (P : Type 0) → RemoveNumbered P
-remove-numbered P fresh s t u h w e =
+pub remove_numbered : (P : Type 0) → RemoveNumbered P
+remove_numbered P fresh s t u h w e =
     let O = Option ℕ in
     let t' : Root O P = over_root Some same t in
     let v = over_rows ℕ P O P Some same t in
     let x = over_rows ℕ P O P (forget fresh) same u in
-    let S = remove-sound O P None s t' h (v.1 w) in
+    let S = remove_sound O P None s t' h (v.1 w) in
     let n = rem_root_news O P None is_new refl s t' in
     let n' : tally is_new (blocks O P u.0 (over_root (forget fresh) same u).1) ≤ tally is_new (blocks O P t.0 t'.1) + (2 * suc t.0 + 1)
     = subst (λ (z : Root O P). tally is_new (blocks O P z.0 z.1) ≤ tally is_new (blocks O P t.0 t'.1) + (2 * suc t.0 + 1)) (sym e) n in (
       x.2 (subst (λ (z : Root O P). Wf O P z.0 z.1) (sym e) S.0),
       sym (map_same (rows ℕ P u.0 u.1)) ∙ sym x.0 ∙ ap (λ (z : Root O P). rows O P z.0 z.1) e ∙ S.1 ∙ ap (del s) (v.0 ∙ map_same (rows ℕ P t.0 t.1)),
-      omega (arith, n', over_tally (forget fresh) same (is_fresh fresh) is_new (is-new fresh) (suc u.0) u.1, over_tally Some same (λ b. 0) is_new (λ b. refl) (suc t.0) t.1, tally_zero (blocks ℕ P t.0 t.1)),
+      omega (arith, n', over_tally (forget fresh) same (is_fresh fresh) is_new (is_new_lem fresh) (suc u.0) u.1, over_tally Some same (λ b. 0) is_new (λ b. refl) (suc t.0) t.1, tally_zero (blocks ℕ P t.0 t.1)),
     )

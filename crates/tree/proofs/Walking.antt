@@ -5,8 +5,8 @@ use Rattle.tree.specs.Node.{ins, del, ahead, flat, Asc}
 use Rattle.tree.specs.Tree.{Pay, Tree, Enough, Cell, Span, Rows, rows}
 use Rattle.tree.specs.Reads.{look, seek, run, total, get_e, walk_e, total_e, Reads, Walks, Sums, Looks}
 use Rattle.tree.proofs.Segs.{ahead_below, ahead_above, asc_le}
-use Rattle.tree.proofs.Puts.{cell_asc, span-asc, flat-id, enough, put-sound}
-use Rattle.tree.proofs.Removes.{remove-sound}
+use Rattle.tree.proofs.Puts.{cell_asc, span_asc, flat_id, enough, put_sound}
+use Rattle.tree.proofs.Removes.{remove_sound}
 
 look_left : {P : Type 0} (s lo m : ℕ) (xs ys : List (ℕ × P)) → Asc lo m xs → m ≤ s → look s (xs ++ ys) ≡ look s ys
 look_left s lo m [] ys p h = refl
@@ -33,7 +33,7 @@ module _ (M P : Type 0) (s : ℕ) where
       cond_both (ahead s r) (get_e M P s l e.1.1) (seek s (λ t. get_e M P s l t.1) r) (λ z. z ≡ look s (A ++ B))
       (λ t. let c = ahead_below W s m hi r p.1.2 b t in
       ih e.0 m e.1.1 (enough l (length e.1.1) (omega (arith, p.1.1))) p.1.1.0 k c
-      ∙ sym (look_right s m hi A B (span-asc M P (suc l) m hi r p.1.2) c))
+      ∙ sym (look_right s m hi A B (span_asc M P (suc l) m hi r p.1.2) c))
       (λ t. let c = ahead_above W s m hi r p.1.2 t in
       seek_look l ih m hi r (more r t) p.1.2 c b ∙ sym (look_left s e.0 m A B (cell_asc M P (suc l) e.0 m e.1 p.1.1) c))
     where
@@ -42,7 +42,7 @@ module _ (M P : Type 0) (s : ℕ) where
       more (e ∷ r) t = omega arith
 
   get_look : (l lo hi : ℕ) (es : List (ℕ × Pay M P l)) → Enough l (length es) → Span M P l lo hi es → lo ≤ s → s < hi → get_e M P s l es ≡ look s (flat (Rows M P l) es)
-  get_look zero lo hi es n p a b = ap (look s) (sym (flat-id es))
+  get_look zero lo hi es n p a b = ap (look s) (sym (flat_id es))
   get_look (suc l) lo hi es n p a b = seek_look l (get_look l) lo hi es (omega arith) p a b
 
 pub reads : (M P : Type 0) → Reads M P
@@ -57,7 +57,7 @@ run_flat f R g h z [] = refl
 run_flat f R g h z (e ∷ r) = run_flat f R g h (g z e.0 e.1) r ∙ ap (λ y. run f y (flat R r)) (h z e.0 e.1) ∙ sym (run_append f z (R e.0 e.1) (flat R r))
 
 walk_rows : (M P S : Type 0) (f : S → ℕ → P → S) (l : ℕ) (z : S) (es : List (ℕ × Pay M P l)) → walk_e M P f l z es ≡ run f z (flat (Rows M P l) es)
-walk_rows M P S f zero z es = ap (run f z) (sym (flat-id es))
+walk_rows M P S f zero z es = ap (run f z) (sym (flat_id es))
 walk_rows M P S f (suc l) z es = run_flat f (Rows M P (suc l)) (λ z k t. walk_e M P f l z t.1) (λ z k t. walk_rows M P S f l z t.1) z es
 
 pub walks : (M P S : Type 0) → Walks M P S
@@ -73,7 +73,7 @@ module _ {S : Type 0} (z : S) (op : S → S → S) (unit : (x : S) → op z x �
   total_flat f R g h (e ∷ r) = ap₂ op (h e.0 e.1) (total_flat f R g h r) ∙ sym (total_append f (R e.0 e.1) (flat R r))
 
   total_rows : (M P : Type 0) (f : ℕ → P → S) (l : ℕ) (es : List (ℕ × Pay M P l)) → total_e M P z op f l es ≡ total z op f (flat (Rows M P l) es)
-  total_rows M P f zero es = ap (total z op f) (sym (flat-id es))
+  total_rows M P f zero es = ap (total z op f) (sym (flat_id es))
   total_rows M P f (suc l) es = total_flat f (Rows M P (suc l)) (λ k t. total_e M P z op f l t.1) (λ k t. total_rows M P f l t.1) es
 
 pub sums : (M P S : Type 0) → Sums M P S
@@ -108,18 +108,18 @@ module _ {P : Type 0} (s k : ℕ) where
       ap (cond (eqb k e.0) (Some e.1)) (look_ins a r) ∙ swap (eqb k e.0) (eqb k s) (Some e.1) (Some a) (look k r) (apart k s e.0 (λ q. omega (arith, h, q))))
       (λ u. let h = ltb-false s e.0 t in let i = ltb-false e.0 s u in over_same k s e.0 (Some a) (Some e.1) (look k r) (omega arith)))
 
-  look-del : (lo hi : ℕ) (es : List (ℕ × P)) → Asc lo hi es → look k (del s es) ≡ cond (eqb k s) None (look k es)
-  look-del lo hi [] p = go (eqb k s)
+  look_del : (lo hi : ℕ) (es : List (ℕ × P)) → Asc lo hi es → look k (del s es) ≡ cond (eqb k s) None (look k es)
+  look_del lo hi [] p = go (eqb k s)
     where
       go : (b : Bool) → ◌≡◌ {A = Option P} None (cond b None None)
       go true = refl
       go false = refl
-  look-del lo hi (e ∷ r) p =
+  look_del lo hi (e ∷ r) p =
       let G : List (ℕ × P) → Type 0 = λ z. look k z ≡ cond (eqb k s) None (look k (e ∷ r)) in
       cond_both (eqb s e.0) _ _ G
       (λ t. let q = eqb-true s e.0 t in gone (cases_eq k s) q)
       (λ t. let n = eqb-false s e.0 t in
-      ap (cond (eqb k e.0) (Some e.1)) (look-del p.1.0 hi r p.1.2) ∙ swap (eqb k e.0) (eqb k s) (Some e.1) None (look k r) (apart k s e.0 n))
+      ap (cond (eqb k e.0) (Some e.1)) (look_del p.1.0 hi r p.1.2) ∙ swap (eqb k e.0) (eqb k s) (Some e.1) None (look k r) (apart k s e.0 n))
     where
       gone : (k ≡ s) ⊎ (k ≡ s → ⊥) → s ≡ e.0 → look k r ≡ cond (eqb k s) None (cond (eqb k e.0) (Some e.1) (look k r))
       gone (inl h) q = rw (eq-eqb k s h) (look_above k p.1.0 hi r p.1.2 (omega (arith, p.1.1)))
@@ -127,6 +127,6 @@ module _ {P : Type 0} (s k : ℕ) where
 
 pub looks : (M P : Type 0) → Looks M P
 looks M P new s k a r h w = (
-  ap (look k) (put-sound M P new s a r h w).1 ∙ look_ins s k a (rows M P r.0 r.1),
-  ap (look k) (remove-sound M P new s r h w).1 ∙ look-del s k 0 10000 (rows M P r.0 r.1) (span-asc M P r.0 0 10000 r.1.1 w.0),
+  ap (look k) (put_sound M P new s a r h w).1 ∙ look_ins s k a (rows M P r.0 r.1),
+  ap (look k) (remove_sound M P new s r h w).1 ∙ look_del s k 0 10000 (rows M P r.0 r.1) (span_asc M P r.0 0 10000 r.1.1 w.0),
 )

@@ -21,7 +21,7 @@ use Rattle.model.proofs.Histories.{keeps_free}
 use Rattle.model.proofs.Reach.{use_is_reach, free_by_counts}
 use Rattle.edit.specs.Edited.{Counting, Editable, WritesFree, given_up, Edited}
 use Rattle.volume.specs.Sound.{Sound}
-use Rattle.volume.proofs.Places.{root_in, others, roots_split, roots-placed, few-rootings}
+use Rattle.volume.proofs.Places.{root_in, others, roots_split, roots_placed, few_rootings}
 
 pub root_block : (c : ℕ → Content) (r : Root) → (tree_at c r).1.0 ≡ r.1
 unfolding tree_at
@@ -61,7 +61,7 @@ module _ (t : Tables) (m : Meaning) (cs : List ℕ) (S : Sound t m cs) where
       good = good_here;
       others = others t n;
       counted = recount (rootings t) (λ b. one r.1 b + others t n b) (split_here h) S.counted;
-      modest = λ b. omega (arith, split_here h b, few-rootings t b S.working S.committed);
+      modest = λ b. omega (arith, split_here h b, few_rootings t b S.working S.committed);
     }
 
   -- one place gets a changed tree
@@ -101,15 +101,15 @@ module _ (t : Tables) (m : Meaning) (cs : List ℕ) (S : Sound t m cs) where
       committed = S.committed;
       generation = S.generation;
       standing = (
-        good_set (Good (blocks_of m') (current_at m')) t.working n (Some r) (old_good t.working (elem-left-used) S.standing.0) G,
+        good_set (Good (blocks_of m') (current_at m')) t.working n (Some r) (old_good t.working (elem_left_used) S.standing.0) G,
         old_good t.committed (elem_right_used) S.standing.1,
       );
       counted = recount (λ b. one u.1.0 b + others t n b) (rootings (placed t (set t.working n (Some r)))) again (E.counted (others t n) (recount (rootings t) (λ b. given_up d (source (model_of t m) n d) b + others t n b) old S.counted));
       long = E.sized ∙ S.long ∙ sym blocks_same;
     }
       where
-        elem-left-used : (b : ℕ) → T (elem b (Reaches (current_at m) t.working)) → T (elem b (used (shape t m)))
-        elem-left-used b k = elem_left b (Reaches (current_at m) t.working) (Reaches (current_at m) t.committed) k
+        elem_left_used : (b : ℕ) → T (elem b (Reaches (current_at m) t.working)) → T (elem b (used (shape t m)))
+        elem_left_used b k = elem_left b (Reaches (current_at m) t.working) (Reaches (current_at m) t.committed) k
 
         elem_right_used : (b : ℕ) → T (elem b (Reaches (current_at m) t.committed)) → T (elem b (used (shape t m)))
         elem_right_used b k = elem_right b (Reaches (current_at m) t.working) (Reaches (current_at m) t.committed) k
@@ -117,6 +117,6 @@ module _ (t : Tables) (m : Meaning) (cs : List ℕ) (S : Sound t m cs) where
         again : (b : ℕ) → one u.1.0 b + others t n b ≡ rootings (placed t (set t.working n (Some r))) b
         again b =
             let e : one r.1 b ≡ one u.1.0 b = ap (λ (y : Root). one y.1 b) at in
-            let q = roots-placed t n (subst (λ k. n < k) (sym S.working) h) b (Some r) in
+            let q = roots_placed t n (subst (λ k. n < k) (sym S.working) h) b (Some r) in
             let z : occ b (root_in (Some r)) ≡ one r.1 b + 0 = refl in
             omega (arith, e, q, z)

@@ -2,7 +2,7 @@ use Rattle.std.proofs.Common.{◌≡◌, ℕ, List, get_or, vec_items, ap, ◌�
 use Rattle.device.specs.Meaning.{Meaning}
 use Rattle.page.specs.View.{view}
 use Rattle.counts.specs.Moves.{State, state_of}
-use Rattle.edit.proofs.Editing.{good-create}
+use Rattle.edit.proofs.Editing.{good_create}
 use Rattle.edit.proofs.Creating.{leaf_able, created_root, created}
 use Rattle.edit.proofs.create_tree.Goals as goal
 
@@ -34,5 +34,5 @@ returns g c =
       sound = c.link.ensures.sound;
       root = at;
       edited = D;
-      good = good-create m cs c.args.grant c.requires.counting c.requires.granted z.0 z.1 _ at D;
+      good = good_create m cs c.args.grant c.requires.counting c.requires.granted z.0 z.1 _ at D;
     }

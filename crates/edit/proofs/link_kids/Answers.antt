@@ -4,7 +4,7 @@ use Rattle.page.specs.View.{view, entries}
 use Rattle.page.proofs.Pages.{entries_length}
 use Rattle.edit.specs.Plan.{page}
 use Rattle.counts.specs.Moves.{linking, State, state_of, step, run}
-use Rattle.edit.proofs.Reading.{first-speed}
+use Rattle.edit.proofs.Reading.{first_speed_lem}
 use Rattle.edit.proofs.Laying.{laid_out}
 use Rattle.edit.proofs.Parting.{by_one, by_low, by_high}
 use Rattle.edit.proofs.link_kids.Goals as goal
@@ -93,7 +93,7 @@ returns-then-speed-sep g c =
     let right : c.take-right.result ≡ get_or c.args.grant.now.blocks (c.args.grant.now.next + 1) 0 = c.take-right.ensures.block ∙ ap₂ (λ (gs : List ℕ) (j : ℕ). get_or gs j 0) c.take-left.ensures.blocks c.take-left.ensures.next in
     let b = by_low l c.args.speed c.args.key (get_or c.args.grant.now.blocks c.args.grant.now.next 0) (get_or c.args.grant.now.blocks (c.args.grant.now.next + 1) 0) c.take-left.result es made q
     (state_of (g.D.Device.meaning c.link-two.new.store.device) (vec_items c.link-two.new.store.counts.of)) c.take-left.ensures.block
-    c.take-right.result _ right full (first-speed c.upper-upper.result c.index-upper-0.result (drop 7 es) c.upper-upper.ensures.these (omega (arith, full, length-drop 7 es)))
+    c.take-right.result _ right full (first_speed_lem c.upper-upper.result c.index-upper-0.result (drop 7 es) c.upper-upper.ensures.these (omega (arith, full, length-drop 7 es)))
     c.if-speed-sep.true (c.link-two.ensures.state ∙ ap₂ (λ (n o : Block). run (linking c.take-left.result n ∷ linking c.take-right.result o ∷ []) q) v u) z zu in
     record {
       sound = c.link-two.ensures.sound;
@@ -119,7 +119,7 @@ returns g c =
     let right : c.take-right.result ≡ get_or c.args.grant.now.blocks (c.args.grant.now.next + 1) 0 = c.take-right.ensures.block ∙ ap₂ (λ (gs : List ℕ) (j : ℕ). get_or gs j 0) c.take-left.ensures.blocks c.take-left.ensures.next in
     let b = by_high l c.args.speed c.args.key (get_or c.args.grant.now.blocks c.args.grant.now.next 0) (get_or c.args.grant.now.blocks (c.args.grant.now.next + 1) 0) c.take-left.result es made q
     (state_of (g.D.Device.meaning c.link-two-2.new.store.device) (vec_items c.link-two-2.new.store.counts.of)) c.take-left.ensures.block
-    c.take-right.result _ right full (first-speed c.upper-upper.result c.index-upper-0.result (drop 7 es) c.upper-upper.ensures.these (omega (arith, full, length-drop 7 es)))
+    c.take-right.result _ right full (first_speed_lem c.upper-upper.result c.index-upper-0.result (drop 7 es) c.upper-upper.ensures.these (omega (arith, full, length-drop 7 es)))
     c.if-speed-sep.false (c.link-two-2.ensures.state ∙ ap₂ (λ (n o : Block). run (linking c.take-left.result n ∷ linking c.take-right.result o ∷ []) q) u v) zu z in
     record {
       sound = c.link-two-2.ensures.sound;

@@ -10,29 +10,29 @@ use Rattle.model.specs.Reach.{roots_of}
 use Rattle.mount.specs.Due.{Usable}
 use Rattle.mount.specs.Counting.{table_walk, Counting}
 use Rattle.mount.specs.Mounts.{current_slot}
-use Rattle.mount.proofs.Counting.{counting-none, counted}
-use Rattle.mount.proofs.Slots.{fits-from, usable_of, used_rooted}
-use Rattle.mount.proofs.Exact.{no_verdict, no_slot, refuses, accepts, all_good, mount_exact, off-layout}
+use Rattle.mount.proofs.Counting.{counting_none, counted}
+use Rattle.mount.proofs.Slots.{fits_from, usable_of, used_rooted}
+use Rattle.mount.proofs.Exact.{no_verdict, no_slot, refuses, accepts, all_good, mount_exact, off_layout}
 use Rattle.mount.proofs.mount_store.Goals as goal
 
 pub walk-clones-requires : goal.walk-clones-requires
 walk-clones-requires g c =
     let m : Meaning = g.D.Device.meaning c.args.device in
     let same : m ≡ g.D.Device.meaning c.read-table.new.device = sym c.read-table.ensures.same in
-    let fit : sizes (blocks_of m) m.width ≡ true = fits-from m c.blocks-blocks.result c.width.result c.blocks-blocks.ensures c.width.ensures c.if-not-is-fitting.ensures in
+    let fit : sizes (blocks_of m) m.width ≡ true = fits_from m c.blocks-blocks.result c.width.result c.blocks-blocks.ensures c.width.ensures c.if-not-is-fitting.ensures in
     let x : ℕ × Table = slot_of c.in-Some-read-table.slot in
     record {
       sound = c.read-table.ensures.stays;
       usable = subst Usable same (usable_of m fit);
       rooted = subst (λ k. every (rooted (blocks_of k)) x.1 ≡ true) same (used_rooted m x (sym c.in-Some-read-table.ensures.answer));
-      none = subst (λ k. Counting k (vec_items c.in-Some.counts.of) []) same (counting-none m (vec_items c.in-Some.counts.of) c.blocks-blocks.result c.in-Some.ensures c.blocks-blocks.ensures);
+      none = subst (λ k. Counting k (vec_items c.in-Some.counts.of) []) same (counting_none m (vec_items c.in-Some.counts.of) c.blocks-blocks.result c.in-Some.ensures c.blocks-blocks.ensures);
     }
 
 pub returns-in-Ok : goal.returns-in-Ok
 returns-in-Ok g c =
     let m : Meaning = g.D.Device.meaning c.args.device in
     let same : g.D.Device.meaning c.read-table.new.device ≡ m = c.read-table.ensures.same in
-    let fit : sizes (blocks_of m) m.width ≡ true = fits-from m c.blocks-blocks.result c.width.result c.blocks-blocks.ensures c.width.ensures c.if-not-is-fitting.ensures in
+    let fit : sizes (blocks_of m) m.width ≡ true = fits_from m c.blocks-blocks.result c.width.result c.blocks-blocks.ensures c.width.ensures c.if-not-is-fitting.ensures in
     let x : ℕ × Table = slot_of c.in-Some-read-table.slot in
     let cs : List ℕ = vec_items c.walk-clones.new.counts.of in
     let slot : Some x ≡ current_slot m = c.in-Some-read-table.ensures.answer in
@@ -55,19 +55,19 @@ returns-in-Ok g c =
 pub returns-in-default-read-table : goal.returns-in-default-read-table
 returns-in-default-read-table g c =
     let m : Meaning = g.D.Device.meaning c.args.device in
-    let fit : sizes (blocks_of m) m.width ≡ true = fits-from m c.blocks-blocks.result c.width.result c.blocks-blocks.ensures c.width.ensures c.if-not-is-fitting.ensures in
+    let fit : sizes (blocks_of m) m.width ≡ true = fits_from m c.blocks-blocks.result c.width.result c.blocks-blocks.ensures c.width.ensures c.if-not-is-fitting.ensures in
     let none : None ≡ current_slot m = c.in-default-read-table.ensures.answer in
     record {
       sound = c.read-table.ensures.stays;
       kept = c.read-table.ensures.same;
-      answer = inl (record { found = no_slot m fit none; off = off-layout m NoVolume (g.D.Device.fit c.args.device c.requires.sound) (no_slot m fit none) });
+      answer = inl (record { found = no_slot m fit none; off = off_layout m NoVolume (g.D.Device.fit c.args.device c.requires.sound) (no_slot m fit none) });
     }
 
 pub returns-in-Err : goal.returns-in-Err
 returns-in-Err g c =
     let m : Meaning = g.D.Device.meaning c.args.device in
     let same : g.D.Device.meaning c.read-table.new.device ≡ m = c.read-table.ensures.same in
-    let fit : sizes (blocks_of m) m.width ≡ true = fits-from m c.blocks-blocks.result c.width.result c.blocks-blocks.ensures c.width.ensures c.if-not-is-fitting.ensures in
+    let fit : sizes (blocks_of m) m.width ≡ true = fits_from m c.blocks-blocks.result c.width.result c.blocks-blocks.ensures c.width.ensures c.if-not-is-fitting.ensures in
     let x : ℕ × Table = slot_of c.in-Some-read-table.slot in
     let slot : Some x ≡ current_slot m = c.in-Some-read-table.ensures.answer in
     let e : Refusal = c.in-Err.refusal in
@@ -75,5 +75,5 @@ returns-in-Err g c =
     record {
       sound = c.walk-clones.ensures.stays;
       kept = c.walk-clones.ensures.same ∙ same;
-      answer = inl (record { found = found; off = off-layout m e (g.D.Device.fit c.args.device c.requires.sound) found });
+      answer = inl (record { found = found; off = off_layout m e (g.D.Device.fit c.args.device c.requires.sound) found });
     }

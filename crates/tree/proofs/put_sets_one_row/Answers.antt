@@ -1,5 +1,5 @@
-use Rattle.tree.proofs.Puts.{put-sound}
+use Rattle.tree.proofs.Puts.{put_sound}
 use Rattle.tree.proofs.put_sets_one_row.Goals as goal
 
 pub returns : goal.returns
-returns g c = put-sound _ _
+returns g c = put_sound _ _

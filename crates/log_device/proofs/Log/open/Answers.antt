@@ -1,7 +1,7 @@
 use Rattle.std.proofs.Common.{◌≡◌, ℕ, ◌≤◌, length, replicate, vec_items, sym, refl, ap, ◌∙◌, subst, arith}
 use Rattle.std.proofs.lemmas.List.{length-replicate}
 use Rattle.log_device.specs.Log.{capacity, flushed_in, log_of, Indexed, Formed, Shaped, AreRecords}
-use Rattle.log_device.proofs.Facts.{room_of, opened-sound}
+use Rattle.log_device.proofs.Facts.{room_of, opened_sound}
 use Rattle.log_device.proofs.Indexes.{index_none}
 use Rattle.log_device.proofs.Cuts.{outlasts}
 use Rattle.log_device.proofs.Log.open.Goals as goal
@@ -51,7 +51,7 @@ returns c =
       opened = (
         s,
         f,
-        opened-sound img n w k e s f c.if-not-is_formed.ensures.fits,
+        opened_sound img n w k e s f c.if-not-is_formed.ensures.fits,
         subst (λ m. Indexed img m w k (vec_items c.enter.new.self.of)) long c.enter.ensures,
         ap (log_of img n w) e,
         refl,

@@ -4,9 +4,9 @@ use Rattle.std.specs.List.{AllByRecursion as All}
 use Rattle.std.proofs.ByRecursion.{All-from_get_or}
 use Rattle.std.proofs.lemmas.List.FromFn.{length-map-range_with_len}
 use Rattle.device.specs.declared.Layer.TheVariants.{Log}
-use Rattle.device.proofs.Calls.{writing_far, writing_at, spending_worn, spending-ok}
+use Rattle.device.proofs.Calls.{writing_far, writing_at, spending_worn, spending_ok}
 use Rattle.log_device.specs.Log.{log_of, Sound, Indexed, record_at, capacity, place_of, word_of}
-use Rattle.log_device.proofs.Facts.{write_after, write_sound, put-old, put_record, room_for}
+use Rattle.log_device.proofs.Facts.{write_after, write_sound, put_old, put_record, room_for}
 use Rattle.log_device.proofs.Indexes.{index_same, index_more}
 use Rattle.log_device.proofs.LogDevice.write.Goals as goal
 
@@ -49,12 +49,12 @@ returns c =
     let put = put_mid from (from + (w + 1) - from) img (word_of 9 b ∷ ws) in
     let e : c.write_record.new.to ≡ word_of 9 b ∷ ws = c.write_record.ensures ∙ ap (λ x. x ∷ ws) c.word.ensures in
     let some : 0 < m.left = omega (arith, length-map-range_with_len (record_at w img) 0 k, room) in
-    let kept : Indexed put n w k index = index_same img put n w k index (λ i l. put-old img n w k c.requires.0 b ws h size fits room _ count i l) c.requires.1 in
+    let kept : Indexed put n w k index = index_same img put n w k index (λ i l. put_old img n w k c.requires.0 b ws h size fits room _ count i l) c.requires.1 in
     let entered : Indexed put n w (k + 1) (set index b (k + 1)) =
     index_more put n w k b index kept (ap (λ r. r.0) (put_record img n w k c.requires.0 b ws h size fits room _ count)) h in
     record {
       stays = subst (λ xs. Sound (put_mid from (from + (w + 1) - from) img xs) n w (k + 1) × Indexed (put_mid from (from + (w + 1) - from) img xs) n w (k + 1) (vec_items c.set.new.self.of)) (sym e)
           (write_sound img n w k c.requires.0 b ws h size fits room _ count, subst (Indexed put n w (k + 1)) (sym c.set.ensures) entered);
       after = ap (λ xs. log_of (put_mid from (from + (w + 1) - from) img xs) n w (k + 1)) e ∙ write_after img n w k c.requires.0 b ws h size fits room _ count;
-      answer = sym (writing_at Log m b (length ws) size (simp length-map-range_with_len h) ∙ spending-ok m some);
+      answer = sym (writing_at Log m b (length ws) size (simp length-map-range_with_len h) ∙ spending_ok m some);
     }

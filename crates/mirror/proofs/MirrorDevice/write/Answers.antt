@@ -3,7 +3,7 @@ use Rattle.device.specs.declared.LayerMark.{LayerMark}
 use Rattle.device.specs.declared.Layer.TheVariants.{Mirror}
 use Rattle.device.specs.declared.DeviceFault.TheVariants.{Worn}
 use Rattle.device.specs.Meaning.{Meaning, blocks_of, written}
-use Rattle.device.proofs.Calls.{writing_short, writing_far, writing_at, spending_worn, spending-ok}
+use Rattle.device.proofs.Calls.{writing_short, writing_far, writing_at, spending_worn, spending_ok}
 use Rattle.mirror.specs.Mirrored.{Alike, mirrored, mirrored_blocks}
 use Rattle.mirror.proofs.Follows.{moved, mirrored_written, alike_written}
 use Rattle.mirror.proofs.MirrorDevice.write.Goals as goal
@@ -78,5 +78,5 @@ returns g c =
       stays = (c.write_side.ensures.stays, c.write_side-2.ensures.stays, moved Alike p q (alike_written m n a b h ws));
       after = moved (λ x y. mirrored x y ≡ written (mirrored m n) b ws) p q
           (mirrored_written m n a b h ws lm ln (g.A.Device.fit c.args.self.now.first c.requires.0).left (g.B.Device.fit c.args.self.now.second c.requires.1).left);
-      answer = sym (writing_at Mirror (mirrored m n) b (length ws) w (omega (arith, mirrored_blocks m n)) ∙ spending-ok (mirrored m n) l);
+      answer = sym (writing_at Mirror (mirrored m n) b (length ws) w (omega (arith, mirrored_blocks m n)) ∙ spending_ok (mirrored m n) l);
     }

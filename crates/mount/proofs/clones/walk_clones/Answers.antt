@@ -7,8 +7,8 @@ use Rattle.page.specs.View.{root_of}
 use Rattle.model.specs.Reach.{roots_of}
 use Rattle.mount.specs.Due.{Usable}
 use Rattle.mount.specs.Counting.{place_walk, table_walk, count_at, Counting, Ready}
-use Rattle.mount.proofs.Counting.{counting_place, roots_at, roots-more, roots_few}
-use Rattle.mount.proofs.Visits.{drop_place, drop-places, rooted_at, clones_step, clones-stop}
+use Rattle.mount.proofs.Counting.{counting_place, roots_at, roots_more, roots_few}
+use Rattle.mount.proofs.Visits.{drop_place, drop_places, rooted_at, clones_step, clones_stop}
 use Rattle.mount.proofs.clones.walk_clones.Goals as goal
 
 pub visit-place-requires : goal.visit-place-requires
@@ -39,7 +39,7 @@ returns-in-err-visit-place g c =
     record {
       stays = c.visit-place.ensures.stays;
       same = c.visit-place.ensures.same ∙ c.loop-i.invariant.1;
-      answer = y.1 ∙ ap Err y.2 ∙ clones-stop m i ps (drop (i + 1) ps) p (table_walk m 0 ps) q c.loop-i.invariant.2 _ k;
+      answer = y.1 ∙ ap Err y.2 ∙ clones_stop m i ps (drop (i + 1) ps) p (table_walk m 0 ps) q c.loop-i.invariant.2 _ k;
       counts = IfOk-from_err _ _ (ap is_err y.1);
     }
 
@@ -57,7 +57,7 @@ loop-i-preserved g c =
     let ready : Ready m csᵢ = record { roots = roots_of (take i ps); counting = c.loop-i.invariant.3; few = omega (arith, roots_few i ps, c.loop-i-test.true) } in
     let good : rooted (blocks_of m) p ≡ true = rooted_at (blocks_of m) i ps (drop (i + 1) ps) p c.requires.rooted q in
     let at : get_or ps i None ≡ p = get_or-map root_of c.args.slot.now.places i c.index-slot-i.result None (omega (arith, c.args.slot.now.fits.1, c.loop-i-test.true)) in
-    let roots : roots_of (take (i + 1) ps) ≡ roots_of (take i ps) ++ roots_at p = roots-more ps i (omega (arith, length-map c.args.slot.now.places root_of, c.args.slot.now.fits.1, c.loop-i-test.true)) ∙ ap (λ x. roots_of (take i ps) ++ roots_at x) at in (
+    let roots : roots_of (take (i + 1) ps) ≡ roots_of (take i ps) ++ roots_at p = roots_more ps i (omega (arith, length-map c.args.slot.now.places root_of, c.args.slot.now.fits.1, c.loop-i-test.true)) ∙ ap (λ x. roots_of (take i ps) ++ roots_at x) at in (
       c.visit-place.ensures.stays,
       c.visit-place.ensures.same ∙ c.loop-i.invariant.1,
       clones_step m i ps (drop (i + 1) ps) p (table_walk m 0 ps) q c.loop-i.invariant.2 k,
@@ -72,6 +72,6 @@ returns g c =
     record {
       stays = c.loop-i.invariant.0;
       same = c.loop-i.invariant.1;
-      answer = sym (ap (table_walk m i) (drop-places c.args.slot.now i c.loop-i-test.false)) ∙ c.loop-i.invariant.2;
+      answer = sym (ap (table_walk m i) (drop_places c.args.slot.now i c.loop-i-test.false)) ∙ c.loop-i.invariant.2;
       counts = subst (λ xs. Counting m (vec_items c.loop-i.counts.of) (roots_of xs)) (take_all i ps (omega (arith, length-map c.args.slot.now.places root_of, c.args.slot.now.fits.1, c.loop-i-test.false))) c.loop-i.invariant.3;
     }

@@ -7,14 +7,14 @@ use Rattle.model.specs.Plain.{blank}
 use Rattle.model.specs.World.{sizes, Formatted}
 use Rattle.model.specs.Onward.{formatting}
 use Rattle.model.proofs.Onward.{formats}
-use Rattle.mount.proofs.Slots.{fits-from}
+use Rattle.mount.proofs.Slots.{fits_from}
 use Rattle.mount.proofs.Formatting.{able}
 use Rattle.mount.proofs.format.format_device.Goals as goal
 
 pub returns : goal.returns
 returns g c =
     let m : Meaning = g.D.Device.meaning c.args.device in
-    let fit : sizes (blocks_of m) m.width ≡ true = fits-from m c.blocks-blocks.result c.width.result c.blocks-blocks.ensures c.width.ensures c.if-not-is-fitting.ensures in
+    let fit : sizes (blocks_of m) m.width ≡ true = fits_from m c.blocks-blocks.result c.width.result c.blocks-blocks.ensures c.width.ensures c.if-not-is-fitting.ensures in
     let some : 2 ≤ m.left = omega (arith, ap (λ (p : ℕ × LayerMark). p.0) c.left-left.ensures, c.if-left-lt2.false) in
     let m₁ : Meaning = g.D.Device.meaning c.write-empty.new.device in
     let a : m₁ ≡ written m 0 (slot_words m.width 0 blank) = c.write-empty.ensures.after in

@@ -9,7 +9,7 @@ use Rattle.mount.specs.declared.walk.Due.{Due}
 use Rattle.mount.specs.Tally.{Room, bumped, tallied, kids}
 use Rattle.mount.specs.Due.{Usable, Loaded, passes, first_fault}
 use Rattle.mount.proofs.Pages.{drop_entry}
-use Rattle.mount.proofs.Walking.{count_small, passes_none, child_fault, own_first, meet-length, start_room, child-in, child-first, no_fault, all_counted, next_room, among_step, length_step, along-step, room_step}
+use Rattle.mount.proofs.Walking.{count_small, passes_none, child_fault, own_first, meet_length, start_room, child_in, child_first, no_fault, all_counted, next_room, among_step, length_step, along_step, room_step}
 use Rattle.mount.proofs.walk.+walk.Goals as goal
 
 pub meet-first-requires : goal.meet-first-requires
@@ -63,7 +63,7 @@ walk-requires g t c κs within =
     let ld : Loaded m d p = c.in-ok-page.ensures.answer in
     let q : drop i (entries p) ≡ (s, v) ∷ rest = drop_entry p i c.index-page-i.result c.loop-i-test.true in
     let csᵢ : List ℕ = vec_items c.loop-i.counts.of in
-    let long : length csᵢ ≡ blocks_of mᵢ = c.loop-i.invariant.3 ∙ meet-length d.block c.args.counting (vec_items c.args.counts.now.of) (vec_items c.meet-first.new.counts.of) c.meet-first.ensures.counts ∙ c.requires.long ∙ ap blocks_of (sym same) in (
+    let long : length csᵢ ≡ blocks_of mᵢ = c.loop-i.invariant.3 ∙ meet_length d.block c.args.counting (vec_items c.args.counts.now.of) (vec_items c.meet-first.new.counts.of) c.meet-first.ensures.counts ∙ c.requires.long ∙ ap blocks_of (sym same) in (
       omega (arith, c.decreases, c.if-due-gt0.true),
       (
         within,
@@ -72,7 +72,7 @@ walk-requires g t c κs within =
           (
             subst Usable (sym same) c.requires.usable,
             (
-              subst (λ x. v < blocks_of x) (sym same) (child-in m d p ld i s v rest c.if-due-gt0.true q),
+              subst (λ x. v < blocks_of x) (sym same) (child_in m d p ld i s v rest c.if-due-gt0.true q),
               (
                 omega (arith, c.requires.low),
                 (
@@ -102,7 +102,7 @@ returns-in-err-walk g t c =
     record {
       stays = c.walk.ensures.stays;
       same = c.walk.ensures.same ∙ c.loop-i.invariant.1 ∙ c.load.ensures.same;
-      answer = y.1 ∙ ap Err y.2 ∙ child-first m₁ d p ld i s v rest _ c.if-due-gt0.true q c.loop-i.invariant.2 k ∙ ap (λ x. passes d.clone (first_fault x d)) c.load.ensures.same;
+      answer = y.1 ∙ ap Err y.2 ∙ child_first m₁ d p ld i s v rest _ c.if-due-gt0.true q c.loop-i.invariant.2 k ∙ ap (λ x. passes d.clone (first_fault x d)) c.load.ensures.same;
       counts = IfOk-from_err _ _ (ap is_err y.1);
     }
 
@@ -125,13 +125,13 @@ loop-i-preserved g t c =
     let csᵢ : List ℕ = vec_items c.loop-i.counts.of in
     let ds : List ℕ = vec_items c.walk.new.counts.of in
     let e : ds ≡ cond first (tallied m₁ l v csᵢ) csᵢ = c.in-ok-walk.ensures.counts ∙ ap (λ x. cond first (tallied x l v csᵢ) csᵢ) c.loop-i.invariant.1 in
-    let long : length csᵢ ≡ blocks_of m₁ = c.loop-i.invariant.3 ∙ meet-length d.block c.args.counting (vec_items c.args.counts.now.of) (vec_items c.meet-first.new.counts.of) c.meet-first.ensures.counts ∙ c.requires.long ∙ ap blocks_of (sym c.load.ensures.same) in
-    let lt : v < length csᵢ = omega (arith, long, child-in m₁ d p ld i s v rest c.if-due-gt0.true q) in (
+    let long : length csᵢ ≡ blocks_of m₁ = c.loop-i.invariant.3 ∙ meet_length d.block c.args.counting (vec_items c.args.counts.now.of) (vec_items c.meet-first.new.counts.of) c.meet-first.ensures.counts ∙ c.requires.long ∙ ap blocks_of (sym c.load.ensures.same) in
+    let lt : v < length csᵢ = omega (arith, long, child_in m₁ d p ld i s v rest c.if-due-gt0.true q) in (
       c.walk.ensures.stays,
       c.walk.ensures.same ∙ c.loop-i.invariant.1,
       among_step (child_fault m₁ d) d.high (drop i (entries p)) rest (entries p) s v q k c.loop-i.invariant.2,
       length_step m₁ l s hi v first csᵢ ds low lt long k e ∙ c.loop-i.invariant.3,
-      along-step m₁ l v s first csᵢ ds _ (drop i (entries p)) rest q e c.loop-i.invariant.4,
+      along_step m₁ l v s first csᵢ ds _ (drop i (entries p)) rest q e c.loop-i.invariant.4,
       room_step m₁ l s hi v first csᵢ ds low lt long k e (drop i (entries p)) rest q c.loop-i.invariant.5,
     )
 

@@ -2,14 +2,14 @@ use Rattle.std.proofs.Common.{◌≡◌, ℕ, length, ap, ◌∙◌}
 use Rattle.device.specs.Meaning.{Meaning, blocks_of, current_at, words}
 use Rattle.page.specs.View.{view}
 use Rattle.model.specs.Walk.{well_made}
-use Rattle.mount.proofs.Blocks.{met-ok, read_words, load_made, load_unmade}
+use Rattle.mount.proofs.Blocks.{met_ok, read_words, load_made, load_unmade}
 use Rattle.mount.proofs.walk.load_by.Goals as goal
 
 pub returns-then-is-well-made : goal.returns-then-is-well-made
 returns-then-is-well-made g c =
     let m : Meaning = g.D.Device.meaning c.args.device.now in
     let d = c.args.due in
-    let e : current_at m d.block ≡ words c.read.new.out = read_words g.D.Device.code m d.block (length c.args.buffer.now) c.args.buffer.now c.read.new.out c.read.result c.requires.fits c.requires.within (met-ok c.read.result d.clone d.block c.in-ok-place.ensures) c.read.ensures.answer c.read.ensures.buffer in
+    let e : current_at m d.block ≡ words c.read.new.out = read_words g.D.Device.code m d.block (length c.args.buffer.now) c.args.buffer.now c.read.new.out c.read.result c.requires.fits c.requires.within (met_ok c.read.result d.clone d.block c.in-ok-place.ensures) c.read.ensures.answer c.read.ensures.buffer in
     let n : c.blocks-in-Some.result ≡ blocks_of m = c.blocks-in-Some.ensures ∙ ap blocks_of c.read.ensures.same in
     record {
       stays = c.read.ensures.stays;
@@ -21,7 +21,7 @@ pub returns-else-is-well-made : goal.returns-else-is-well-made
 returns-else-is-well-made g c =
     let m : Meaning = g.D.Device.meaning c.args.device.now in
     let d = c.args.due in
-    let e : current_at m d.block ≡ words c.read.new.out = read_words g.D.Device.code m d.block (length c.args.buffer.now) c.args.buffer.now c.read.new.out c.read.result c.requires.fits c.requires.within (met-ok c.read.result d.clone d.block c.in-ok-place.ensures) c.read.ensures.answer c.read.ensures.buffer in
+    let e : current_at m d.block ≡ words c.read.new.out = read_words g.D.Device.code m d.block (length c.args.buffer.now) c.args.buffer.now c.read.new.out c.read.result c.requires.fits c.requires.within (met_ok c.read.result d.clone d.block c.in-ok-place.ensures) c.read.ensures.answer c.read.ensures.buffer in
     let n : c.blocks-in-Some.result ≡ blocks_of m = c.blocks-in-Some.ensures ∙ ap blocks_of c.read.ensures.same in
     record {
       stays = c.read.ensures.stays;

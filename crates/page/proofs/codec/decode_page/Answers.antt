@@ -1,13 +1,13 @@
 use Rattle.std.proofs.Common.{◌≡◌, ℕ, ◌/◌, ◌%◌, true, false, List, map, get_or, take, drop, refl, ap, ◌∙◌, subst, arith, length-set}
 use Rattle.page.specs.View.{pair}
 use Rattle.page.specs.Block.{Block, pairs}
-use Rattle.page.proofs.Words.{dec-step, decode_by}
+use Rattle.page.proofs.Words.{dec_step, decode_by}
 use Rattle.page.proofs.codec.decode_page.Goals as goal
 
 pub loop-i-preserved : goal.loop-i-preserved
 loop-i-preserved c = (
   length-set c.loop-i.items c.loop-i.i _ ∙ c.loop-i.invariant.0,
-  dec-step _ pair c.loop-i.items c.args.words.now c.loop-i.i _ (omega (arith, c.loop-i.invariant.0, c.loop-i-test.true, c.if-len-gt15.false)) refl c.loop-i.invariant.1,
+  dec_step _ pair c.loop-i.items c.args.words.now c.loop-i.i _ (omega (arith, c.loop-i.invariant.0, c.loop-i-test.true, c.if-len-gt15.false)) refl c.loop-i.invariant.1,
 )
 
 pub returns-then-is_page : goal.returns-then-is_page

@@ -1,7 +1,7 @@
 use Rattle.std.proofs.Common.{◌≡◌, ◌+◌, ◌*◌, [], ◌∷◌, length, refl, ap, ◌∙◌, arith, length-set}
 use Rattle.page.specs.View.{entries}
 use Rattle.page.specs.Block.{value_kind, header_of, flat}
-use Rattle.page.proofs.Words.{enc_start, enc-step, zero_step}
+use Rattle.page.proofs.Words.{enc_start, enc_step, zero_step}
 use Rattle.page.proofs.Pages.{entries_length, entries_at, all_entries, whole}
 use Rattle.page.proofs.codec.encode_page.Goals as goal
 
@@ -13,7 +13,7 @@ loop-i-preserved c =
     let len = c.loop-i.invariant.0 in
     let w : length c.loop-i.out ≡ length c.args.out.now = len ∙ length-set _ 1 0 ∙ length-set c.args.out.now 0 c.header_word.result in (
       length-set _ (2 * c.loop-i.i + 3) c.value_word.result ∙ length-set c.loop-i.out (2 * c.loop-i.i + 2) _ ∙ len,
-      enc-step c.loop-i.out (value_kind c.args.page.now.level) (header_of c.args.page.now.level c.args.page.now.len) c.loop-i.i (entries c.args.page.now) _ _ c.value_word.result
+      enc_step c.loop-i.out (value_kind c.args.page.now.level) (header_of c.args.page.now.level c.args.page.now.len) c.loop-i.i (entries c.args.page.now) _ _ c.value_word.result
           (omega (arith, w, c.requires, c.args.page.now.few.0, c.loop-i-test.true)) (omega (arith, entries_length c.args.page.now, c.loop-i-test.true))
           (entries_at c.args.page.now c.loop-i.i c.index-page-i.result c.loop-i-test.true) c.value_word.ensures c.loop-i.invariant.1,
     )

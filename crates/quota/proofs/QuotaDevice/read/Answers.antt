@@ -3,7 +3,7 @@ use Rattle.device.specs.Meaning.{Meaning, answered, filled, passed}
 use Rattle.device.specs.declared.Layer.TheVariants.{Quota}
 use Rattle.device.proofs.Calls.{reading_far}
 use Rattle.quota.specs.Limited.{Allowed, limited, limited_blocks}
-use Rattle.quota.proofs.Follows.{limited_answer, limited-filled}
+use Rattle.quota.proofs.Follows.{limited_answer, limited_filled}
 use Rattle.quota.proofs.QuotaDevice.read.Goals as goal
 
 pub returns-then-block-self : goal.returns-then-block-self
@@ -29,5 +29,5 @@ returns g c =
       stays = (c.read.ensures.stays, subst (Allowed n) (sym c.read.ensures.same) c.requires.1);
       same = ap (limited n) c.read.ensures.same;
       answer = c.pass_up.ensures ∙ ap passed c.read.ensures.answer ∙ sym (limited_answer n m few b h code k w);
-      buffer = c.read.ensures.buffer ∙ sym (limited-filled n m few b h code k w c.args.out.now);
+      buffer = c.read.ensures.buffer ∙ sym (limited_filled n m few b h code k w c.args.out.now);
     }

@@ -4,11 +4,11 @@ use Rattle.device.specs.Meaning.{Meaning}
 use Rattle.page.specs.Block.{block_at, kids_of, level_of}
 use Rattle.page.specs.View.{view}
 use Rattle.page.specs.declared.page.Page.{Page}
-use Rattle.page.proofs.Pages.{page-kids-length, page_kids_at}
+use Rattle.page.proofs.Pages.{page_kids_length, page_kids_at}
 use Rattle.counts.specs.Moves.{Held, Dropped, Wide}
 use Rattle.counts.proofs.Steps.{within as inside}
 use Rattle.counts.proofs.Opens.{held_alive}
-use Rattle.counts.proofs.Drops.{dropped-one, dropped-last, dropped-leaf, dropped_push, next_child}
+use Rattle.counts.proofs.Drops.{dropped_one, dropped_last, dropped_leaf, dropped_push, next_child}
 use Rattle.counts.proofs.store.Store.+release.Goals as goal
 use Rattle.counts.proofs.store.Store.+release.Goals.{else-count-eq1-via-then-count-eq1+else-level-gt0, else-count-eq1-via-else-count-eq1}
 
@@ -34,7 +34,7 @@ release-requires g t c κs within =
     let p : Page = c.read_page-page.result in
     let ks : List ℕ = kids_of (Some (view p)) in
     let up : p.level ≡ c.args.level = ap level_of (sym c.read_page-page.ensures.page) ∙ c.requires.held.height in
-    let len = page-kids-length p (omega (arith, up, c.if-level-gt0.true)) in
+    let len = page_kids_length p (omega (arith, up, c.if-level-gt0.true)) in
     let lt : c.loop-i.i < length ks = omega (arith, c.loop-i-test.true, len) in
     let same : d.meaning c.loop-i.self.device ≡ d.meaning c.args.self.now.device = c.loop-i.invariant.1 ∙ c.read_page-page.ensures.kept in
     let n : get_or (vec_items c.args.self.now.counts.of) c.args.block 0 ≡ 1 = omega (arith, c.get-count.ensures, c.if-count-eq1.true) in
@@ -63,7 +63,7 @@ loop-i-preserved g t c =
     let p : Page = c.read_page-page.result in
     let ks : List ℕ = kids_of (Some (view p)) in
     let up : p.level ≡ c.args.level = ap level_of (sym c.read_page-page.ensures.page) ∙ c.requires.held.height in
-    let len = page-kids-length p (omega (arith, up, c.if-level-gt0.true)) in
+    let len = page_kids_length p (omega (arith, up, c.if-level-gt0.true)) in
     let lt : c.loop-i.i < length ks = omega (arith, c.loop-i-test.true, len) in
     let kid : get_or ks c.loop-i.i 0 ≡ (get_or p.items c.loop-i.i c.index-page-i.result).value = page_kids_at p c.loop-i.i c.index-page-i.result (omega (arith, up, c.if-level-gt0.true)) c.loop-i-test.true in
     let m : Meaning = d.meaning c.read_page-page.new.self.device in
@@ -82,7 +82,7 @@ returns-after-loop-i g t c =
     let p : Page = c.read_page-page.result in
     let ks : List ℕ = kids_of (Some (view p)) in
     let up : p.level ≡ c.args.level = ap level_of (sym c.read_page-page.ensures.page) ∙ c.requires.held.height in
-    let len = page-kids-length p (omega (arith, up, c.if-level-gt0.true)) in
+    let len = page_kids_length p (omega (arith, up, c.if-level-gt0.true)) in
     let all : take c.loop-i.i ks ≡ ks = take_all c.loop-i.i ks (omega (arith, len, c.loop-i-test.false)) in
     let n : get_or (vec_items c.args.self.now.counts.of) c.args.block 0 ≡ 1 = omega (arith, c.get-count.ensures, c.if-count-eq1.true) in
     let e : vec_items c.read_page-page.new.self.counts.of ≡ set (vec_items c.args.self.now.counts.of) c.args.block 0 =
@@ -91,7 +91,7 @@ returns-after-loop-i g t c =
     record {
       sound = c.loop-i.invariant.0;
       kept = c.loop-i.invariant.1 ∙ c.read_page-page.ensures.kept;
-      dropped = dropped-last c.args.block ks _ _ _ _ n e (ap kids_of (sym c.read_page-page.ensures.page))
+      dropped = dropped_last c.args.block ks _ _ _ _ n e (ap kids_of (sym c.read_page-page.ensures.page))
           (subst (λ xs. Dropped xs (d.meaning c.args.self.now.device) (vec_items c.read_page-page.new.self.counts.of) (vec_items c.loop-i.self.counts.of)) all gone);
     }
 
@@ -103,7 +103,7 @@ returns-else-count-eq1 g t c =
       sound = c.requires.sound;
       kept = refl;
       dropped = elim c.else-count-eq1.branch [
-        | else-count-eq1-via-then-count-eq1+else-level-gt0 w ↦ dropped-leaf c.args.block _ cs _ (omega (arith, c.get-count.ensures, w.if-count-eq1.true)) (c.set.ensures ∙ ap (set cs c.args.block) (omega (arith, w.if-count-eq1.true))) (omega (arith, c.requires.held.height, w.if-level-gt0.false))
-        | else-count-eq1-via-else-count-eq1 w ↦ dropped-one c.args.block (c.get-count.result - 1) _ cs _ c.set.ensures (omega (arith, c.get-count.ensures, a)) (omega (arith, c.get-count.ensures, a, w.if-count-eq1.false))
+        | else-count-eq1-via-then-count-eq1+else-level-gt0 w ↦ dropped_leaf c.args.block _ cs _ (omega (arith, c.get-count.ensures, w.if-count-eq1.true)) (c.set.ensures ∙ ap (set cs c.args.block) (omega (arith, w.if-count-eq1.true))) (omega (arith, c.requires.held.height, w.if-level-gt0.false))
+        | else-count-eq1-via-else-count-eq1 w ↦ dropped_one c.args.block (c.get-count.result - 1) _ cs _ c.set.ensures (omega (arith, c.get-count.ensures, a)) (omega (arith, c.get-count.ensures, a, w.if-count-eq1.false))
       ];
     }
