@@ -28,13 +28,13 @@ enter-requires c =
     let f : Formed img n w = c.if-not-is_formed.ensures.formed in
     let h : k ≤ capacity (length img) w = omega (arith, e, f.within) in
     let empty : vec_items c.in-Some.index.of ≡ replicate n 0 = c.in-Some.ensures in
-    let long : length (vec_items c.in-Some.index.of) ≡ n = ap length empty ∙ length-replicate {A = ℕ} n 0 in (
-      room_of k w (length img) c.if-image-lt1.false h,
-      omega (arith, h),
-      c.if-width-gt64.false,
-      subst (λ m. AreRecords img m w k) (sym long) (subst (AreRecords img n w) (sym e) f.kinds),
-      subst (λ m. Indexed img m w 0 (vec_items c.in-Some.index.of)) (sym long) (subst (Indexed img n w 0) (sym empty) (index_none img n w)),
-    )
+    let long : length (vec_items c.in-Some.index.of) ≡ n = ap length empty ∙ length-replicate {A = ℕ} n 0 in record {
+      width_in_bounds = room_of k w (length img) c.if-image-lt1.false h;
+      count_bound = omega (arith, h);
+      width_bound = c.if-width-gt64.false;
+      are_records = subst (λ m. AreRecords img m w k) (sym long) (subst (AreRecords img n w) (sym e) f.kinds);
+      indexed = subst (λ m. Indexed img m w 0 (vec_items c.in-Some.index.of)) (sym long) (subst (Indexed img n w 0) (sym empty) (index_none img n w));
+    }
 
 pub returns : goal.returns
 returns c =
