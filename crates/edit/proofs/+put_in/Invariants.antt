@@ -1,4 +1,4 @@
 use Rattle.edit.proofs.+put_in.Given as goal
 
-abbrev pub decreases-put-in : goal.decreases-put-in
-decreases-put-in g l = l.page.now.level
+abbrev pub decreases-put_in : goal.decreases-put_in
+decreases-put_in g l = l.page.now.level

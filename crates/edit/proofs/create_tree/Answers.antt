@@ -14,13 +14,13 @@ link-requires g c =
     let b : c.take-block.result ≡ get_or c.args.grant.blocks 0 0 = c.take-block.ensures.block ∙ ap (λ (i : ℕ). get_or c.args.grant.blocks i 0) c.requires.granted.start in
     record { sound = c.requires.sound; wide = c.requires.counting.wide; on = omega (arith, L.0, b); within = omega (arith, L.1, b); free = ap (λ (x : ℕ). get_or cs x 0) b ∙ L.4; left = L.2; low = omega (arith, c.empty-leaf.ensures.level) }
 
-pub invariant-of-result : goal.invariant-of-result
-invariant-of-result g c =
+pub invariant_of-result : goal.invariant_of-result
+invariant_of-result g c =
     let m : Meaning = g.D.Device.meaning c.args.store.now.device in
     let cs : List ℕ = vec_items c.args.store.now.counts.of in
     let L = leaf_able m cs c.args.grant c.requires.counting c.requires.granted in
     let b : c.take-block.result ≡ get_or c.args.grant.blocks 0 0 = c.take-block.ensures.block ∙ ap (λ (i : ℕ). get_or c.args.grant.blocks i 0) c.requires.granted.start in
-    ((omega arith, omega (arith, L.3, b)), tt)
+    record { small = (omega arith, omega (arith, L.3, b)) }
 
 pub returns : goal.returns
 returns g c =

@@ -24,8 +24,8 @@ link-requires g c =
       low = omega (arith, c.requires.level.0, c.requires.level.1);
     }
 
-pub link-two-requires : goal.link-two-requires
-link-two-requires g c =
+pub link_two-requires : goal.link_two-requires
+link_two-requires g c =
     let cs : List ℕ = vec_items c.args.store.now.counts.of in
     let p = c.requires.places in
     let left = c.take-left.ensures.block in
@@ -41,8 +41,8 @@ link-two-requires g c =
       low = (omega (arith, c.requires.level.0, c.requires.level.1), omega (arith, c.requires.level.0, c.upper-upper.ensures.level));
     }
 
-pub link-two-requires-2 : goal.link-two-requires-2
-link-two-requires-2 g c =
+pub link_two-requires-2 : goal.link_two-requires-2
+link_two-requires-2 g c =
     let cs : List ℕ = vec_items c.args.store.now.counts.of in
     let p = c.requires.places in
     let left = c.take-left.ensures.block in
@@ -74,9 +74,9 @@ returns-then-child-lt15 g c =
       kids = b.kids;
       state = b.state;
       laid = b.laid;
-      next = omega (arith, c.give-back.ensures.next, c.take-left.ensures.next);
-      len = c.give-back.ensures.len ∙ c.take-left.ensures.len;
-      blocks = c.give-back.ensures.blocks ∙ c.take-left.ensures.blocks;
+      next = omega (arith, c.give_back.ensures.next, c.take-left.ensures.next);
+      len = c.give_back.ensures.len ∙ c.take-left.ensures.len;
+      blocks = c.give_back.ensures.blocks ∙ c.take-left.ensures.blocks;
     }
 
 pub returns-then-speed-sep : goal.returns-then-speed-sep
@@ -92,11 +92,11 @@ returns-then-speed-sep g c =
     let zu : Layout q.0.width (page l (drop 7 es)) = subst (Layout q.0.width) u (laid_out c.upper-upper.result q.0.width c.requires.wide.0 (omega (arith, c.requires.level.0, c.upper-upper.ensures.level))) in
     let right : c.take-right.result ≡ get_or c.args.grant.now.blocks (c.args.grant.now.next + 1) 0 = c.take-right.ensures.block ∙ ap₂ (λ (gs : List ℕ) (j : ℕ). get_or gs j 0) c.take-left.ensures.blocks c.take-left.ensures.next in
     let b = by_low l c.args.speed c.args.key (get_or c.args.grant.now.blocks c.args.grant.now.next 0) (get_or c.args.grant.now.blocks (c.args.grant.now.next + 1) 0) c.take-left.result es made q
-    (state_of (g.D.Device.meaning c.link-two.new.store.device) (vec_items c.link-two.new.store.counts.of)) c.take-left.ensures.block
+    (state_of (g.D.Device.meaning c.link_two.new.store.device) (vec_items c.link_two.new.store.counts.of)) c.take-left.ensures.block
     c.take-right.result _ right full (first_speed_lem c.upper-upper.result c.index-upper-0.result (drop 7 es) c.upper-upper.ensures.these (omega (arith, full, length-drop 7 es)))
-    c.if-speed-sep.true (c.link-two.ensures.state ∙ ap₂ (λ (n o : Block). run (linking c.take-left.result n ∷ linking c.take-right.result o ∷ []) q) v u) z zu in
+    c.if-speed-sep.true (c.link_two.ensures.state ∙ ap₂ (λ (n o : Block). run (linking c.take-left.result n ∷ linking c.take-right.result o ∷ []) q) v u) z zu in
     record {
-      sound = c.link-two.ensures.sound;
+      sound = c.link_two.ensures.sound;
       kids = b.kids;
       state = b.state;
       laid = b.laid;
@@ -118,11 +118,11 @@ returns g c =
     let zu : Layout q.0.width (page l (take 7 es)) = subst (Layout q.0.width) u (laid_out c.lower-lower.result q.0.width c.requires.wide.0 (omega (arith, c.requires.level.0, c.lower-lower.ensures.level))) in
     let right : c.take-right.result ≡ get_or c.args.grant.now.blocks (c.args.grant.now.next + 1) 0 = c.take-right.ensures.block ∙ ap₂ (λ (gs : List ℕ) (j : ℕ). get_or gs j 0) c.take-left.ensures.blocks c.take-left.ensures.next in
     let b = by_high l c.args.speed c.args.key (get_or c.args.grant.now.blocks c.args.grant.now.next 0) (get_or c.args.grant.now.blocks (c.args.grant.now.next + 1) 0) c.take-left.result es made q
-    (state_of (g.D.Device.meaning c.link-two-2.new.store.device) (vec_items c.link-two-2.new.store.counts.of)) c.take-left.ensures.block
+    (state_of (g.D.Device.meaning c.link_two-2.new.store.device) (vec_items c.link_two-2.new.store.counts.of)) c.take-left.ensures.block
     c.take-right.result _ right full (first_speed_lem c.upper-upper.result c.index-upper-0.result (drop 7 es) c.upper-upper.ensures.these (omega (arith, full, length-drop 7 es)))
-    c.if-speed-sep.false (c.link-two-2.ensures.state ∙ ap₂ (λ (n o : Block). run (linking c.take-left.result n ∷ linking c.take-right.result o ∷ []) q) u v) zu z in
+    c.if-speed-sep.false (c.link_two-2.ensures.state ∙ ap₂ (λ (n o : Block). run (linking c.take-left.result n ∷ linking c.take-right.result o ∷ []) q) u v) zu z in
     record {
-      sound = c.link-two-2.ensures.sound;
+      sound = c.link_two-2.ensures.sound;
       kids = b.kids;
       state = b.state;
       laid = b.laid;
