@@ -16,7 +16,7 @@ pub walk-requires : goal.walk-requires
 walk-requires g c =
     let m : Meaning = g.D.Device.meaning c.args.device.now in
     let cs : List ℕ = vec_items c.args.counts.now.of in
-    let d : c.root-due-due.result ≡ root_due c.args.clone (c.args.root.height, c.args.root.block) = c.root-due-due.ensures in
+    let d : c.root_due-due.result ≡ root_due c.args.clone (c.args.root.height, c.args.root.block) = c.root_due-due.ensures in
     record {
       sound = c.requires.sound;
       usable = c.requires.usable;
@@ -26,15 +26,15 @@ walk-requires g c =
       room = λ e. subst (λ (x : Due). Room m cs (x.block ∷ [])) (sym d) (ready_room m cs c.args.root.block c.requires.ready);
     }
 
-pub returns-in-err-walk : goal.returns-in-err-walk
-returns-in-err-walk g c =
+pub returns-in_err-walk : goal.returns-in_err-walk
+returns-in_err-walk g c =
     let m : Meaning = g.D.Device.meaning c.args.device.now in
-    let d : c.root-due-due.result ≡ root_due c.args.clone (c.args.root.height, c.args.root.block) = c.root-due-due.ensures in
-    let y = err_from_is_err_and c.from-residual.result c.from-residual.ensures.1 in
+    let d : c.root_due-due.result ≡ root_due c.args.clone (c.args.root.height, c.args.root.block) = c.root_due-due.ensures in
+    let y = err_from_is_err_and c.from_residual.result c.from_residual.ensures.1 in
     record {
       stays = c.walk.ensures.stays;
       same = c.walk.ensures.same;
-      answer = y.1 ∙ ap Err y.2 ∙ c.in-err-walk.ensures.answer ∙ ap (λ (x : Due). passes x.clone (first_fault m x)) d;
+      answer = y.1 ∙ ap Err y.2 ∙ c.in_err-walk.ensures.answer ∙ ap (λ (x : Due). passes x.clone (first_fault m x)) d;
       counts = IfOk-from_err _ _ (ap is_err y.1);
     }
 
@@ -45,9 +45,9 @@ add-requires g c =
     let r : slots.Root = (c.args.root.height, c.args.root.block) in
     let b : ℕ = c.args.root.block in
     let ds : List ℕ = vec_items c.walk.new.counts.of in
-    let d : c.root-due-due.result ≡ root_due c.args.clone r = c.root-due-due.ensures in
-    let k : fault_of (blocks_of m) (current_at m) r ≡ None = passes_none c.args.clone (fault_of (blocks_of m) (current_at m) r) (c.in-ok-walk.ensures.answer ∙ ap (λ (x : Due). passes x.clone (first_fault m x)) d) in
-    let e : ds ≡ tallied m (top_level r.0) b cs = c.in-ok-walk.ensures.counts ∙ ap (λ (x : Due). tallied m x.level x.block cs) d in
+    let d : c.root_due-due.result ≡ root_due c.args.clone r = c.root_due-due.ensures in
+    let k : fault_of (blocks_of m) (current_at m) r ≡ None = passes_none c.args.clone (fault_of (blocks_of m) (current_at m) r) (c.in_ok-walk.ensures.answer ∙ ap (λ (x : Due). passes x.clone (first_fault m x)) d) in
+    let e : ds ≡ tallied m (top_level r.0) b cs = c.in_ok-walk.ensures.counts ∙ ap (λ (x : Due). tallied m x.level x.block cs) d in
     record {
       within = omega (arith, ap length e, walked_long m cs r c.requires.ready c.requires.height.1 c.requires.within k, c.requires.within);
       small = omega (arith, ap (λ xs. get_or xs b 0) e, walked_small m cs r c.requires.ready c.requires.height.1 c.requires.within k c.requires.usable);
@@ -60,10 +60,10 @@ returns g c =
     let r : slots.Root = (c.args.root.height, c.args.root.block) in
     let b : ℕ = c.args.root.block in
     let ds : List ℕ = vec_items c.walk.new.counts.of in
-    let d : c.root-due-due.result ≡ root_due c.args.clone r = c.root-due-due.ensures in
+    let d : c.root_due-due.result ≡ root_due c.args.clone r = c.root_due-due.ensures in
     record {
       stays = c.walk.ensures.stays;
       same = c.walk.ensures.same;
-      answer = c.in-ok-walk.ensures.answer ∙ ap (λ (x : Due). passes x.clone (first_fault m x)) d;
-      counts = c.add.ensures.counts ∙ ap (bumped b) (c.in-ok-walk.ensures.counts ∙ ap (λ (x : Due). tallied m x.level x.block cs) d);
+      answer = c.in_ok-walk.ensures.answer ∙ ap (λ (x : Due). passes x.clone (first_fault m x)) d;
+      counts = c.add.ensures.counts ∙ ap (bumped b) (c.in_ok-walk.ensures.counts ∙ ap (λ (x : Due). tallied m x.level x.block cs) d);
     }

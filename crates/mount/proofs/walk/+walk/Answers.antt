@@ -21,14 +21,14 @@ meet-first-requires g t c =
       small = λ e. count_small m cs (c.args.due.block ∷ []) c.args.due.block c.requires.long c.requires.usable (c.requires.room e);
     }
 
-pub returns-in-err-page : goal.returns-in-err-page
-returns-in-err-page g t c =
+pub returns-in_err-page : goal.returns-in_err-page
+returns-in_err-page g t c =
     let m : Meaning = g.D.Device.meaning c.args.device.now in
-    let y = err_from_is_err_and c.from-residual.result c.from-residual.ensures.1 in
+    let y = err_from_is_err_and c.from_residual.result c.from_residual.ensures.1 in
     record {
       stays = c.load.ensures.stays;
       same = c.load.ensures.same;
-      answer = y.1 ∙ ap Err y.2 ∙ own_first m c.args.due _ c.in-err-page.ensures.answer;
+      answer = y.1 ∙ ap Err y.2 ∙ own_first m c.args.due _ c.in_err-page.ensures.answer;
       counts = IfOk-from_err _ _ (ap is_err y.1);
     }
 
@@ -36,7 +36,7 @@ pub loop-i-init : goal.loop-i-init
 loop-i-init g t c =
     let m : Meaning = g.D.Device.meaning c.args.device.now in
     let m₁ : Meaning = g.D.Device.meaning c.load.new.device in
-    let p : Page = c.in-ok-page.page in
+    let p : Page = c.in_ok-page.page in
     let cs : List ℕ = vec_items c.args.counts.now.of in
     let same : m ≡ m₁ = sym c.load.ensures.same in (
       c.load.ensures.stays,
@@ -45,7 +45,7 @@ loop-i-init g t c =
       refl,
       refl,
       (λ e. subst (λ x. Room x (vec_items c.meet-first.new.counts.of) (kids (entries p))) same
-          (start_room m c.args.due p c.in-ok-page.ensures.answer c.args.counting c.meet-first.result cs (vec_items c.meet-first.new.counts.of) c.if-due-gt0.true (omega (arith, c.requires.long, c.requires.within)) c.requires.room c.meet-first.ensures.first c.meet-first.ensures.counts e)),
+          (start_room m c.args.due p c.in_ok-page.ensures.answer c.args.counting c.meet-first.result cs (vec_items c.meet-first.new.counts.of) c.if-due-gt0.true (omega (arith, c.requires.long, c.requires.within)) c.requires.room c.meet-first.ensures.first c.meet-first.ensures.counts e)),
     )
 
 pub walk-requires : goal.walk-requires
@@ -54,13 +54,13 @@ walk-requires g t c κs within =
     let m₁ : Meaning = g.D.Device.meaning c.load.new.device in
     let mᵢ : Meaning = g.D.Device.meaning c.loop-i.device in
     let d : Due = c.args.due in
-    let p : Page = c.in-ok-page.page in
+    let p : Page = c.in_ok-page.page in
     let i : ℕ = c.loop-i.i in
     let s : ℕ = (get_or p.items i c.index-page-i.result).speed in
     let v : ℕ = (get_or p.items i c.index-page-i.result).value in
     let rest : List (ℕ × ℕ) = drop (i + 1) (entries p) in
     let same : mᵢ ≡ m = c.loop-i.invariant.1 ∙ c.load.ensures.same in
-    let ld : Loaded m d p = c.in-ok-page.ensures.answer in
+    let ld : Loaded m d p = c.in_ok-page.ensures.answer in
     let q : drop i (entries p) ≡ (s, v) ∷ rest = drop_entry p i c.index-page-i.result c.loop-i-test.true in
     let csᵢ : List ℕ = vec_items c.loop-i.counts.of in
     let long : length csᵢ ≡ blocks_of mᵢ = c.loop-i.invariant.3 ∙ meet_length d.block c.args.counting (vec_items c.args.counts.now.of) (vec_items c.meet-first.new.counts.of) c.meet-first.ensures.counts ∙ c.requires.long ∙ ap blocks_of (sym same) in (
@@ -86,19 +86,19 @@ walk-requires g t c κs within =
       ),
     )
 
-pub returns-in-err-walk : goal.returns-in-err-walk
-returns-in-err-walk g t c =
+pub returns-in_err-walk : goal.returns-in_err-walk
+returns-in_err-walk g t c =
     let m₁ : Meaning = g.D.Device.meaning c.load.new.device in
     let d : Due = c.args.due in
-    let p : Page = c.in-ok-page.page in
+    let p : Page = c.in_ok-page.page in
     let i : ℕ = c.loop-i.i in
     let s : ℕ = (get_or p.items i c.index-page-i.result).speed in
     let v : ℕ = (get_or p.items i c.index-page-i.result).value in
     let rest : List (ℕ × ℕ) = drop (i + 1) (entries p) in
     let q : drop i (entries p) ≡ (s, v) ∷ rest = drop_entry p i c.index-page-i.result c.loop-i-test.true in
-    let ld : Loaded m₁ d p = subst (λ x. Loaded x d p) (sym c.load.ensures.same) c.in-ok-page.ensures.answer in
-    let k = c.in-err-walk.ensures.answer ∙ ap (λ x. passes d.clone (child_fault x d s c.upper.result v)) c.loop-i.invariant.1 ∙ ap (λ u. passes d.clone (child_fault m₁ d s u v)) c.upper.ensures in
-    let y = err_from_is_err_and c.from-residual-in-err-walk.result c.from-residual-in-err-walk.ensures.1 in
+    let ld : Loaded m₁ d p = subst (λ x. Loaded x d p) (sym c.load.ensures.same) c.in_ok-page.ensures.answer in
+    let k = c.in_err-walk.ensures.answer ∙ ap (λ x. passes d.clone (child_fault x d s c.upper.result v)) c.loop-i.invariant.1 ∙ ap (λ u. passes d.clone (child_fault m₁ d s u v)) c.upper.ensures in
+    let y = err_from_is_err_and c.from_residual-in_err-walk.result c.from_residual-in_err-walk.ensures.1 in
     record {
       stays = c.walk.ensures.stays;
       same = c.walk.ensures.same ∙ c.loop-i.invariant.1 ∙ c.load.ensures.same;
@@ -110,7 +110,7 @@ pub loop-i-preserved : goal.loop-i-preserved
 loop-i-preserved g t c =
     let m₁ : Meaning = g.D.Device.meaning c.load.new.device in
     let d : Due = c.args.due in
-    let p : Page = c.in-ok-page.page in
+    let p : Page = c.in_ok-page.page in
     let i : ℕ = c.loop-i.i in
     let l : ℕ = d.level - 1 in
     let low : l < 5 = omega (arith, c.requires.low) in
@@ -119,12 +119,12 @@ loop-i-preserved g t c =
     let rest : List (ℕ × ℕ) = drop (i + 1) (entries p) in
     let hi : ℕ = next d.high rest in
     let q : drop i (entries p) ≡ (s, v) ∷ rest = drop_entry p i c.index-page-i.result c.loop-i-test.true in
-    let ld : Loaded m₁ d p = subst (λ x. Loaded x d p) (sym c.load.ensures.same) c.in-ok-page.ensures.answer in
-    let k : child_fault m₁ d s hi v ≡ None = passes_none d.clone (child_fault m₁ d s hi v) (c.in-ok-walk.ensures.answer ∙ ap (λ x. passes d.clone (child_fault x d s c.upper.result v)) c.loop-i.invariant.1 ∙ ap (λ u. passes d.clone (child_fault m₁ d s u v)) c.upper.ensures) in
+    let ld : Loaded m₁ d p = subst (λ x. Loaded x d p) (sym c.load.ensures.same) c.in_ok-page.ensures.answer in
+    let k : child_fault m₁ d s hi v ≡ None = passes_none d.clone (child_fault m₁ d s hi v) (c.in_ok-walk.ensures.answer ∙ ap (λ x. passes d.clone (child_fault x d s c.upper.result v)) c.loop-i.invariant.1 ∙ ap (λ u. passes d.clone (child_fault m₁ d s u v)) c.upper.ensures) in
     let first : Bool = c.meet-first.result in
     let csᵢ : List ℕ = vec_items c.loop-i.counts.of in
     let ds : List ℕ = vec_items c.walk.new.counts.of in
-    let e : ds ≡ cond first (tallied m₁ l v csᵢ) csᵢ = c.in-ok-walk.ensures.counts ∙ ap (λ x. cond first (tallied x l v csᵢ) csᵢ) c.loop-i.invariant.1 in
+    let e : ds ≡ cond first (tallied m₁ l v csᵢ) csᵢ = c.in_ok-walk.ensures.counts ∙ ap (λ x. cond first (tallied x l v csᵢ) csᵢ) c.loop-i.invariant.1 in
     let long : length csᵢ ≡ blocks_of m₁ = c.loop-i.invariant.3 ∙ meet_length d.block c.args.counting (vec_items c.args.counts.now.of) (vec_items c.meet-first.new.counts.of) c.meet-first.ensures.counts ∙ c.requires.long ∙ ap blocks_of (sym c.load.ensures.same) in
     let lt : v < length csᵢ = omega (arith, long, child_in m₁ d p ld i s v rest c.if-due-gt0.true q) in (
       c.walk.ensures.stays,
@@ -139,10 +139,10 @@ pub returns-after-loop-i : goal.returns-after-loop-i
 returns-after-loop-i g t c =
     let m₁ : Meaning = g.D.Device.meaning c.load.new.device in
     let d : Due = c.args.due in
-    let p : Page = c.in-ok-page.page in
+    let p : Page = c.in_ok-page.page in
     let i : ℕ = c.loop-i.i in
     let cs : List ℕ = vec_items c.args.counts.now.of in
-    let ld : Loaded m₁ d p = subst (λ x. Loaded x d p) (sym c.load.ensures.same) c.in-ok-page.ensures.answer in
+    let ld : Loaded m₁ d p = subst (λ x. Loaded x d p) (sym c.load.ensures.same) c.in_ok-page.ensures.answer in
     record {
       stays = c.loop-i.invariant.0;
       same = c.loop-i.invariant.1 ∙ c.load.ensures.same;

@@ -10,14 +10,14 @@ loop-i-preserved c =
     let p = c.args.page.now in
     let i = c.loop-i.i in
     c.loop-i.invariant ∙ payable_step p c.args.blocks c.args.level i c.index-page-i.result c.loop-i-test.true
-    ∙ ap (λ t. t && every (payable c.args.blocks c.args.level) (drop (i + 1) (entries p))) (sym c.if-not-is-payable.ensures)
+    ∙ ap (λ t. t && every (payable c.args.blocks c.args.level) (drop (i + 1) (entries p))) (sym c.if-not-is_payable.ensures)
 
-pub returns-then-not-is-payable : goal.returns-then-not-is-payable
-returns-then-not-is-payable c =
+pub returns-then-not-is_payable : goal.returns-then-not-is_payable
+returns-then-not-is_payable c =
     let p = c.args.page.now in
     let i = c.loop-i.i in
     sym (c.loop-i.invariant ∙ payable_step p c.args.blocks c.args.level i c.index-page-i.result c.loop-i-test.true
-    ∙ ap (λ t. t && every (payable c.args.blocks c.args.level) (drop (i + 1) (entries p))) (sym c.if-not-is-payable.ensures))
+    ∙ ap (λ t. t && every (payable c.args.blocks c.args.level) (drop (i + 1) (entries p))) (sym c.if-not-is_payable.ensures))
 
 pub returns : goal.returns
 returns c = sym (c.loop-i.invariant ∙ ap (every (payable c.args.blocks c.args.level)) (past c.args.page.now c.loop-i.i c.loop-i-test.false))

@@ -12,8 +12,8 @@ returns-then-page-due-2 c =
     let d = c.args.due in
     let P : Bool = every (payable c.args.blocks d.level) (entries p) in
     sym (made_by p c.args.blocks d.least d.level d.low d.high c.if-page-due.false
-    ∙ ap (λ t. t && (ascending d.high (entries p) && (leb d.least p.len && P))) (sym c.if-not-starts-at.ensures)
-    ∙ ap (λ t. t && (leb d.least p.len && P)) (sym c.if-not-is-ascending.ensures)
+    ∙ ap (λ t. t && (ascending d.high (entries p) && (leb d.least p.len && P))) (sym c.if-not-starts_at.ensures)
+    ∙ ap (λ t. t && (leb d.least p.len && P)) (sym c.if-not-is_ascending.ensures)
     ∙ ap (λ t. t && P) (lt-leb d.least p.len c.if-page-due-2.true))
 
 pub returns : goal.returns
@@ -22,7 +22,7 @@ returns c =
     let d = c.args.due in
     let P : Bool = every (payable c.args.blocks d.level) (entries p) in
     sym (made_by p c.args.blocks d.least d.level d.low d.high c.if-page-due.false
-    ∙ ap (λ t. t && (ascending d.high (entries p) && (leb d.least p.len && P))) (sym c.if-not-starts-at.ensures)
-    ∙ ap (λ t. t && (leb d.least p.len && P)) (sym c.if-not-is-ascending.ensures)
+    ∙ ap (λ t. t && (ascending d.high (entries p) && (leb d.least p.len && P))) (sym c.if-not-starts_at.ensures)
+    ∙ ap (λ t. t && (leb d.least p.len && P)) (sym c.if-not-is_ascending.ensures)
     ∙ ap (λ t. t && P) (le-leb d.least p.len c.if-page-due-2.false)
-    ∙ sym c.are-payable.ensures)
+    ∙ sym c.are_payable.ensures)
