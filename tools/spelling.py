@@ -7,7 +7,6 @@ usage: python3 tools/spelling.py [--dry]
 """
 import os
 import re
-import subprocess
 import sys
 
 DRY = "--dry" in sys.argv
@@ -133,7 +132,7 @@ def main():
         f.write("\n".join(lines) + "\n")
     for a, b in CRATES.items():
         if a in own:
-            subprocess.run(["git", "mv", f"crates/{a}", f"crates/{b}"], check=True)
+            os.rename(f"crates/{a}", f"crates/{b}")
     print(len(table), "names respelled")
 
 
