@@ -1,5 +1,5 @@
 -- A cut below the check layer is a cut of it.
-use Rattle.std.proofs.Common.{◌≡◌, ℕ, ◌-◌, ◌<◌, ◌≤◌, ◌⊎◌, map, get_or, sym, ap, ◌∙◌, subst, inl, inr, ⊎_elim, arith}
+use Rattle.std.proofs.Common.{ℕ, ◌-◌, ◌<◌, ◌≤◌, map, get_or, sym, ap, ◌∙◌, subst, inl, inr, ⊎_elim, arith}
 use Rattle.std.proofs.lemmas.List.{length-map, get_or-map}
 use Rattle.device.specs.Meaning.{Meaning, Cell, Content, Cut, CutCell, CutTo, flushed, no_cell, blocks_of}
 use Rattle.device.specs.Cuts.{cell_at}

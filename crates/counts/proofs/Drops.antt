@@ -1,11 +1,10 @@
 -- References that are dropped, one after another.
-use Rattle.std.proofs.Common.{◌≡◌, ℕ, zero, suc, ◌+◌, ◌-◌, ◌<◌, ◌≤◌, Bool, true, false, cond, ◌⊎◌, List, [], ◌∷◌, ◌++◌, map, length, get_or, take, drop, set, Some, None, Option, sym, refl, ap, ◌∙◌, subst, inl, inr, ⊎_elim, arith}
-use Rattle.std.proofs.lemmas.List.{take_more, drop_more, take-append-drop, take_all}
+use Rattle.std.proofs.Common.{◌≡◌, ℕ, ◌+◌, ◌-◌, ◌<◌, List, [], ◌∷◌, ◌++◌, length, get_or, take, drop, set, Some, None, Option, sym, refl, ap, ◌∙◌, subst, arith}
+use Rattle.std.proofs.lemmas.List.{drop_more, take-append-drop}
 use Rattle.device.specs.Meaning.{Meaning}
 use Rattle.page.specs.Block.{Block, kids_of, level_of, block_at, children}
-use Rattle.counts.specs.Counts.{one, occ, live, parents, Counted}
+use Rattle.counts.specs.Counts.{one, occ, Counted}
 use Rattle.counts.specs.Moves.{Held, Dropped}
-use Rattle.counts.proofs.Parents.{one_same}
 use Rattle.counts.proofs.Steps.{drop_one, drop_last}
 use Rattle.counts.proofs.Opens.{occ_append, occ_at, recount}
 

@@ -1,10 +1,10 @@
 -- A block that is written and linked.
-use Rattle.std.proofs.Common.{◌≡◌, ℕ, ◌+◌, ◌<◌, true, List, length, get_or, set, is_some, Some, Option, sym, refl, ap, ◌∙◌, subst}
+use Rattle.std.proofs.Common.{◌≡◌, ℕ, ◌+◌, ◌<◌, true, get_or, is_some, Some, Option, sym, refl, ap, ◌∙◌, subst}
 use Rattle.std.proofs.lemmas.List.{get_or-set_same, get_or-set_other}
 use Rattle.device.specs.Meaning.{Meaning, Cell, blocks_of, no_cell, written, written_cell}
 use Rattle.page.specs.Block.{Block, block_in, block_at, kids_of, level_of, encode, Layout}
 use Rattle.page.proofs.Exact.{back}
-use Rattle.counts.specs.Counts.{one, occ, Counted}
+use Rattle.counts.specs.Counts.{occ, Counted}
 use Rattle.counts.specs.Keeping.{LinkKeeps}
 use Rattle.counts.proofs.Steps.{link_in}
 

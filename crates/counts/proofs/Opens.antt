@@ -1,11 +1,11 @@
 -- A reference to a block is given up for references to its children.
-use Rattle.std.proofs.Common.{◌≡◌, ℕ, zero, suc, ◌+◌, ◌-◌, ◌*◌, ◌<◌, ◌≤◌, Bool, true, false, cond, ◌&&◌, eqb, ltb, leb, ◌⊎◌, List, [], ◌∷◌, ◌++◌, map, length, get_or, take, drop, set, is_some, Some, None, Option, sym, refl, ap, ◌∙◌, subst, inl, inr, ⊎_elim, arith, length-set}
-use Rattle.std.proofs.lemmas.Bool.{cases_eq, cases_lt, cases_Bool, cond-true, cond-false, and_parts, leb-true, false≢true, eq-eqb, ne_eqb}
-use Rattle.std.proofs.lemmas.List.{get_or-set_same, get_or-set_other, get_or_past, length-map, set_past, drop_more}
+use Rattle.std.proofs.Common.{◌≡◌, ℕ, zero, suc, ◌+◌, ◌-◌, ◌*◌, ◌<◌, ◌≤◌, Bool, true, false, cond, ◌&&◌, eqb, ltb, leb, List, [], ◌∷◌, ◌++◌, length, get_or, drop, set, Some, None, Option, sym, refl, ap, ◌∙◌, subst, ⊎_elim, arith, length-set}
+use Rattle.std.proofs.lemmas.Bool.{cases_eq, cases_lt, and_parts, leb-true, eq-eqb, ne_eqb}
+use Rattle.std.proofs.lemmas.List.{get_or-set_same, get_or-set_other, length-map, set_past, drop_more}
 use Rattle.device.specs.Meaning.{Meaning, Content, words, damaged, current_at}
-use Rattle.page.specs.Block.{Block, kids_of, level_of, block_at, children, decode, block_in, read, encode, same, fits}
-use Rattle.counts.specs.Counts.{one, occ, live, parents, Counted, add_all, opened, Roomy}
-use Rattle.counts.proofs.Parents.{one_same, one_other, live_pos, parents_ge}
+use Rattle.page.specs.Block.{Block, kids_of, block_at, children, block_in, read, encode, same, fits}
+use Rattle.counts.specs.Counts.{one, occ, parents, Counted, add_all, opened, Roomy}
+use Rattle.counts.proofs.Parents.{one_same, one_other, parents_ge}
 use Rattle.counts.proofs.Steps.{within, held, drop_one, drop_last, add_one_more}
 
 pub occ_append : (b : ℕ) (xs ys : List ℕ) → occ b (xs ++ ys) ≡ occ b xs + occ b ys

@@ -1,12 +1,11 @@
 -- What is read of a block that holds a node.
-use Rattle.std.proofs.Common.{◌≡◌, ℕ, ◌<◌, ◌≤◌, true, List, [], ◌∷◌, length, get_or, is_some, Ok, Err, Result, sym, refl, ap, ◌∙◌, subst, ⊎_elim, arith}
+use Rattle.std.proofs.Common.{◌≡◌, ℕ, ◌<◌, true, List, is_some, Ok, sym, refl, ap, ◌∙◌, ⊎_elim}
 use Rattle.std.proofs.lemmas.List.{get_or_past}
 use Rattle.std.proofs.lemmas.Bool.{cases_lt, false≢true}
 use Rattle.device.specs.declared.Layer.{Layer}
-use Rattle.device.specs.declared.DeviceFault.{DeviceFault}
 use Rattle.device.specs.Meaning.{Meaning, Content, Cell, words, damaged, current_at, blocks_of, no_cell, reading, held}
 use Rattle.device.proofs.Calls.{reading_at}
-use Rattle.page.specs.Block.{Block, decode, block_in, block_at}
+use Rattle.page.specs.Block.{decode, block_in, block_at}
 
 held_words : (k : Content) → is_some (block_in k) ≡ true → (ws : List ℕ) × (k ≡ words ws)
 held_words (words ws) h = (ws, refl)

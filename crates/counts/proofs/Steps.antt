@@ -1,9 +1,9 @@
 -- How the counts' equation moves with each step.
-use Rattle.std.proofs.Common.{◌≡◌, ℕ, zero, suc, ◌+◌, ◌-◌, ◌<◌, ◌≤◌, Bool, true, false, cond, eqb, ◌⊎◌, List, [], ◌∷◌, ◌++◌, map, length, get_or, set, is_some, Some, None, Option, sym, refl, ap, ◌∙◌, subst, inl, inr, ⊎_elim, arith}
+use Rattle.std.proofs.Common.{◌≡◌, ℕ, zero, suc, ◌+◌, ◌-◌, ◌<◌, true, List, length, get_or, set, is_some, Option, sym, ap, subst, ⊎_elim, arith}
 use Rattle.std.proofs.lemmas.Bool.{cases_eq, cases_lt}
 use Rattle.std.proofs.lemmas.List.{get_or-set_same, get_or-set_other, get_or_past}
 use Rattle.page.specs.Block.{Block, kids_of, level_of}
-use Rattle.counts.specs.Counts.{one, occ, live, parents, Counted, Reached, root, child, AliveIsReached}
+use Rattle.counts.specs.Counts.{one, occ, live, Counted, Reached, root, child, AliveIsReached}
 use Rattle.counts.proofs.Parents.{one_same, one_other, live_pos, parents_set, parents_ge, parents_same, parents_some}
 
 pub within : (cs : List ℕ) (x : ℕ) → 0 < get_or cs x 0 → x < length cs

@@ -1,5 +1,5 @@
 -- Counts of references: the local equation.
-use Rattle.std.specs.Prelude.{◌≡◌, ℕ, zero, suc, ◌+◌, ◌-◌, ◌<◌, ◌≤◌, Bool, true, false, cond, List, [], ◌∷◌, ◌++◌, map, length, is_some, Option, ◌==◌, nat_lt, slice_index, slice_set}
+use Rattle.std.specs.Prelude.{◌≡◌, ℕ, zero, suc, ◌+◌, ◌-◌, ◌<◌, ◌≤◌, true, cond, List, [], ◌∷◌, length, is_some, Option, ◌==◌, nat_lt, slice_index, slice_set}
 use Rattle.page.specs.Block.{Block, kids_of, level_of}
 
 abbrev pub one : ℕ → ℕ → ℕ

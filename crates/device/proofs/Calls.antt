@@ -1,8 +1,8 @@
 -- What reading and writing answer, case by case.
-use Rattle.std.proofs.Common.{◌≡◌, ℕ, ◌<◌, ◌≤◌, true, false, cond, List, [], ◌∷◌, length, Ok, Err, Result, sym, refl, ap, ◌∙◌, ⊎_elim, arith}
+use Rattle.std.proofs.Common.{◌≡◌, ℕ, ◌<◌, ◌≤◌, List, length, Ok, Err, Result, sym, refl, ap, ◌∙◌, ⊎_elim, arith}
 use Rattle.std.proofs.lemmas.Bool.{eq-eqb, ne_eqb, lt-ltb, le-ltb, cases_lt}
 use Rattle.device.specs.declared.Layer.{Layer}
-use Rattle.device.specs.declared.DeviceFault.TheVariants.{Length, Range, Worn, Damaged}
+use Rattle.device.specs.declared.DeviceFault.TheVariants.{Length, Range, Worn}
 use Rattle.device.specs.Meaning.{Meaning, blocks_of, reading, writing, held, current_at, own, spending, passed, raised, answered, filled, after_write, written}
 use Rattle.device.specs.declared.DeviceFault.{DeviceFault}
 

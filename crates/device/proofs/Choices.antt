@@ -1,8 +1,8 @@
 -- Cuts by choice, and by the rule.
-use Rattle.std.proofs.Common.{◌≡◌, ℕ, zero, suc, ◌+◌, ◌<◌, ◌≤◌, min, Bool, true, false, ◌⊎◌, List, [], ◌∷◌, map, length, get_or, set, sym, refl, ap, ◌∙◌, subst, ap₂, inl, inr, ⊎_elim, arith}
+use Rattle.std.proofs.Common.{◌≡◌, ℕ, zero, suc, ◌+◌, ◌<◌, ◌≤◌, List, [], ◌∷◌, map, length, get_or, sym, refl, ap, ◌∙◌, subst, ap₂, inl, inr, ⊎_elim, arith}
 use Rattle.std.specs.List.{AllByRecursion as All}
-use Rattle.std.proofs.lemmas.List.{same_lists, length-map, get_or_default, get_or-set_same, get_or-set_other, length-set}
-use Rattle.device.specs.Meaning.{Content, Cell, Meaning, blocks_of, no_cell, written, written_cell, flushed, flushed_cell, Held, Lawful, LawfulCell, Cut, CutCell, CutTo}
+use Rattle.std.proofs.lemmas.List.{length-map, get_or-set_same, get_or-set_other, length-set}
+use Rattle.device.specs.Meaning.{Content, Cell, Meaning, blocks_of, no_cell, written, written_cell, flushed, flushed_cell, Lawful, LawfulCell, Cut, CutCell, CutTo}
 use Rattle.device.specs.Cuts.{Op, Op.write, Op.flush, apply, replay, Choice, Choice.old, Choice.new, Choice.other, Cutting, remains, cut_cell, cut_cells, cut, cell_at, Fits, CutsAgree}
 
 cells_length : (k : ℕ → Choice) (i : ℕ) (cs : List Cell) → length (cut_cells k i cs) ≡ length cs

@@ -1,5 +1,5 @@
 -- What a cut leaves is flushed already.
-use Rattle.std.proofs.Common.{◌≡◌, ℕ, ◌<◌, ◌≤◌, List, [], ◌∷◌, map, length, get_or, sym, refl, ap, ◌∙◌, subst, arith}
+use Rattle.std.proofs.Common.{◌≡◌, ℕ, ◌<◌, List, map, get_or, sym, ap, ◌∙◌, arith}
 use Rattle.std.proofs.lemmas.List.{same_lists, length-map, get_or-map, get_or_default}
 use Rattle.device.specs.Meaning.{Meaning, Cell, Content, Cut, CutCell, flushed, flushed_cell, no_cell, blocks_of}
 

@@ -1,5 +1,5 @@
 -- A cut of the power as a function of what it chooses; the device calls of a call, replayed.
-use Rattle.std.specs.Prelude.{◌≡◌, ℕ, zero, suc, ◌<◌, ◌≤◌, List, [], ◌∷◌, length, slice_index_or}
+use Rattle.std.specs.Prelude.{◌≡◌, ℕ, zero, suc, ◌<◌, ◌≤◌, List, [], ◌∷◌, slice_index_or}
 use Rattle.device.specs.declared.LayerMark.{LayerMark}
 use Rattle.device.specs.Meaning.{Content, Cell, Meaning, blocks_of, no_cell, written, flushed, Held, Lawful, Cut}
 

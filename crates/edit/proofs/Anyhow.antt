@@ -6,7 +6,7 @@ use Rattle.tree.specs.Tree.{Pay, Tree}
 use Rattle.page.specs.Block.{Block, block_at, kids_of}
 use Rattle.counts.specs.Counts.{opened}
 use Rattle.edit.specs.Plan.{shallow, page, node_of, chosen, parted, placed, links, down, put_n, kid_moves, moves}
-use Rattle.counts.specs.Moves.{Move, opening, linking, State, state_of, step, writes, Laid}
+use Rattle.counts.specs.Moves.{Move, opening, State, state_of, step, writes, Laid}
 use Rattle.edit.specs.Able.{Ready, Able, Made, Open}
 use Rattle.counts.specs.Moves.{Wide, Owned}
 use Rattle.edit.proofs.States.{same_by, writes_append}

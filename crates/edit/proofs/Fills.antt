@@ -1,17 +1,17 @@
 -- One level of any edit: some children in a row are opened, a part of what they hold is made anew below, and one or two blocks stand for them.
-use Rattle.std.proofs.Common.{◌≡◌, ℕ, zero, suc, ◌+◌, ◌-◌, ◌*◌, ◌<◌, ◌≤◌, Bool, true, false, cond, List, [], ◌∷◌, ◌++◌, map, length, get_or, take, drop, Option, sym, refl, ap, ◌∙◌, subst, ap₂, arith}
+use Rattle.std.proofs.Common.{◌≡◌, ℕ, suc, ◌+◌, ◌*◌, ◌<◌, ◌≤◌, List, [], ◌∷◌, ◌++◌, length, get_or, Option, sym, refl, ap, ◌∙◌, subst, arith}
 use Rattle.device.specs.Meaning.{Meaning, blocks_of, no_cell}
 use Rattle.tree.specs.Node.{Every, map_e}
 use Rattle.tree.specs.Tree.{Pay, Tree}
 use Rattle.tree.proofs.Kept.{every_append}
 use Rattle.page.specs.Block.{Block, block_at, kids_of}
-use Rattle.counts.specs.Counts.{one, occ, Counted, opened}
-use Rattle.counts.proofs.Opens.{recount, open_counted, open_free, length_opened}
+use Rattle.counts.specs.Counts.{one, occ, Counted}
+use Rattle.counts.proofs.Opens.{recount, open_counted, open_free}
 use Rattle.edit.specs.Plan.{shallow, kids, Stored, placed, links}
 use Rattle.counts.specs.Moves.{Move, opening, State, step, run, Laid}
-use Rattle.edit.specs.Kept.{Free, Outside, Kept, Stands}
+use Rattle.edit.specs.Kept.{Free, Stands}
 use Rattle.edit.specs.Fill.{opens, below}
-use Rattle.edit.proofs.States.{Same, run_same, run_append, laid_append}
+use Rattle.edit.proofs.States.{run_same, run_append}
 use Rattle.edit.proofs.Downs.{kids_append}
 use Rattle.edit.proofs.Keeps.{Good, frame, same_live, free_open, laid_parts}
 

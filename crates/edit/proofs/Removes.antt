@@ -1,19 +1,18 @@
 -- Remove keeps the counts' equation, and what it makes is stored.
-use Rattle.std.proofs.Common.{◌≡◌, ℕ, zero, suc, ◌+◌, ◌-◌, ◌*◌, ◌<◌, ◌≤◌, Bool, true, false, cond, eqb, ltb, List, [], ◌∷◌, ◌++◌, length, get_or, take, drop, sym, refl, ap, ◌∙◌, subst, ap₂, append-nil, arith, take-append-drop}
-use Rattle.device.specs.Meaning.{Meaning, blocks_of}
-use Rattle.tree.specs.Node.{del, first, is_nil, beside, Every, map_e}
+use Rattle.std.proofs.Common.{◌≡◌, ℕ, zero, suc, ◌+◌, ◌-◌, ◌*◌, ◌≤◌, Bool, true, false, cond, eqb, ltb, List, [], ◌∷◌, ◌++◌, length, get_or, take, drop, sym, refl, ap, ◌∙◌, arith, take-append-drop}
+use Rattle.tree.specs.Node.{del, first, Every}
 use Rattle.tree.specs.Tree.{Pay, Tree}
 use Rattle.tree.proofs.Kept.{every_append, every_take, every_drop}
 use Rattle.page.specs.Block.{block_at}
 use Rattle.counts.specs.Counts.{one, occ, Counted}
 use Rattle.counts.proofs.Opens.{recount}
-use Rattle.edit.specs.Plan.{shallow, kids, Stored, placed, links}
+use Rattle.edit.specs.Plan.{kids, Stored}
 use Rattle.counts.specs.Moves.{Move, State, run, Laid}
-use Rattle.edit.specs.Kept.{Free, Kept, Stands}
-use Rattle.edit.specs.Fill.{opens, below}
-use Rattle.edit.specs.Remove.{short, work_r, rest_r, parts_r, work_l, rest_l, parts_l, beside_m, put2, alone_n, right_n, left_n, edit_moves, alone_m, right_m, left_m, shrink_n, shrink_m, rem_n, rem_moves, RemoveKeeps}
+use Rattle.edit.specs.Kept.{Free, Stands}
+use Rattle.edit.specs.Fill.{below}
+use Rattle.edit.specs.Remove.{put2, right_n, left_n, edit_moves, right_m, left_m, shrink_n, shrink_m, rem_n, rem_moves, RemoveKeeps}
 use Rattle.edit.proofs.Downs.{kids_append}
-use Rattle.edit.proofs.Keeps.{Good, good_one, good_two, kept_refl, frame, same_live}
+use Rattle.edit.proofs.Keeps.{good_one, good_two, kept_refl, frame, same_live}
 use Rattle.edit.proofs.Fills.{replaced, among}
 
 kids_nil : (b l : ℕ) → occ b (kids l []) ≡ 0

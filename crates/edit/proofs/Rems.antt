@@ -1,9 +1,9 @@
 -- Remove on numbers is remove, with the numbers of the grant forgotten.
-use Rattle.std.proofs.Common.{◌≡◌, ℕ, zero, suc, ◌+◌, ◌-◌, ◌*◌, ◌<◌, ◌≤◌, Bool, true, false, cond, eqb, ltb, List, [], ◌∷◌, ◌++◌, length, get_or, take, drop, Some, None, Option, sym, refl, ap, ◌∙◌, subst, ap₂, ⊎_elim, append-nil, arith, length-drop, length-take}
+use Rattle.std.proofs.Common.{◌≡◌, ℕ, zero, suc, ◌+◌, ◌-◌, ◌*◌, ◌<◌, ◌≤◌, Bool, true, false, cond, eqb, List, [], ◌∷◌, ◌++◌, length, get_or, take, drop, Some, None, Option, sym, refl, ap, ◌∙◌, subst, ap₂, ⊎_elim, append-nil, arith}
 use Rattle.std.proofs.lemmas.Bool.{eq-eqb, ne_eqb, lt-ltb, le-ltb, cases_eq, cases_lt, cond-true}
-use Rattle.tree.specs.Node.{del, first, at, beside, Every, map_e, Node, touch, ready_right, ready_left, Seg}
+use Rattle.tree.specs.Node.{first, at, Every, map_e, touch, ready_right, ready_left}
 use Rattle.tree.specs.Tree.{Pay, Tree, Gap, Cell, Span, rem_e}
-use Rattle.tree.specs.Stored.{forget, same}
+use Rattle.tree.specs.Stored.{same}
 use Rattle.tree.proofs.Over.{map-append, map_take, map_drop, map_length, map_first, map_del}
 use Rattle.tree.proofs.Kept.{every_append, every_take, every_drop}
 use Rattle.tree.proofs.Segs.{seg_join, seg_le}
@@ -11,7 +11,7 @@ use Rattle.tree.proofs.Puts.{gap_trans, gap_le, span_cut}
 use Rattle.tree.proofs.Removes.{cell_le}
 use Rattle.tree.proofs.Steps.{Old, new_of, old_of, over_old, map_old}
 use Rattle.edit.specs.Plan.{placed}
-use Rattle.edit.specs.Remove.{short, work_r, parts_r, work_l, parts_l, put2, alone_n, right_n, left_n, shrink_n, rem_n, Removes}
+use Rattle.edit.specs.Remove.{short, work_r, parts_r, work_l, parts_l, right_n, shrink_n, rem_n, Removes}
 
 abbrev O : Type 0
 O = Option ℕ

@@ -1,6 +1,6 @@
 -- Children in a row, opened.
-use Rattle.std.specs.Prelude.{ℕ, suc, ◌+◌, List, [], ◌∷◌}
-use Rattle.tree.specs.Tree.{Pay, Tree}
+use Rattle.std.specs.Prelude.{ℕ, ◌+◌, List, [], ◌∷◌}
+use Rattle.tree.specs.Tree.{Tree}
 use Rattle.counts.specs.Counts.{occ}
 use Rattle.edit.specs.Plan.{kids}
 use Rattle.counts.specs.Moves.{Move, opening}

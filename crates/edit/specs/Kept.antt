@@ -1,10 +1,10 @@
 -- What put leaves as it was, and what stands afterwards.
-use Rattle.std.specs.Prelude.{◌≡◌, ℕ, zero, suc, ◌+◌, ◌*◌, ◌<◌, ◌≤◌, List, [], ◌∷◌, ◌++◌, length, ◌≢◌, slice_index, slice_index_or}
+use Rattle.std.specs.Prelude.{◌≡◌, ℕ, ◌+◌, ◌*◌, ◌<◌, List, length, ◌≢◌, slice_index, slice_index_or}
 use Rattle.device.specs.Meaning.{Meaning, Cell, blocks_of, no_cell}
 use Rattle.tree.specs.Node.{Every}
-use Rattle.tree.specs.Tree.{Pay, Tree}
-use Rattle.page.specs.Block.{Block, block_at}
-use Rattle.counts.specs.Counts.{one, occ, Counted}
+use Rattle.tree.specs.Tree.{Pay}
+use Rattle.page.specs.Block.{block_at}
+use Rattle.counts.specs.Counts.{occ, Counted}
 use Rattle.edit.specs.Plan.{kids, Stored}
 use Rattle.counts.specs.Moves.{State}
 

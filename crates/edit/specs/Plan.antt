@@ -1,9 +1,8 @@
 -- Put on numbered blocks: the entries that result, and the moves that make them.
-use Rattle.std.specs.Prelude.{◌≡◌, ℕ, zero, suc, ◌+◌, ◌*◌, ◌<◌, ◌≤◌, Bool, true, false, cond, List, [], ◌∷◌, ◌++◌, length, take, drop, Some, Option, ◌==◌, nat_lt, slice_index}
-use Rattle.device.specs.Meaning.{Meaning, written}
+use Rattle.std.specs.Prelude.{◌≡◌, ℕ, zero, suc, ◌+◌, ◌*◌, cond, List, [], ◌∷◌, ◌++◌, length, take, drop, Some, Option, ◌==◌, nat_lt, slice_index}
 use Rattle.tree.specs.Node.{ins, at, ahead, first, map_e}
 use Rattle.tree.specs.Tree.{Pay, Tree, Root, All, only}
-use Rattle.page.specs.Block.{Block, block_at, kids_of, encode, Layout}
+use Rattle.page.specs.Block.{Block, kids_of}
 use Rattle.counts.specs.Moves.{Move, opening, linking}
 
 -- rows, or separators with the children's numbers

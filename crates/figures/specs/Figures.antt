@@ -1,5 +1,5 @@
 -- Worked figures, as equations on the definitions that contracts cite.
-use Rattle.std.specs.Prelude.{◌≡◌, ℕ, true, false, List, [], ◌∷◌, ℤ, pos, negsuc, Some, None, Ok, Err, Option}
+use Rattle.std.specs.Prelude.{◌≡◌, ℕ, true, false, List, [], ◌∷◌, ℤ, pos, negsuc, Some, None, Ok, Err}
 use Rattle.table.specs.declared.row.RowFault.TheVariants.{Speed, Angle}
 use Rattle.table.specs.Rows.{checked_row, payload_of, fault_number}
 use Rattle.table.specs.Angles.{angle_at}

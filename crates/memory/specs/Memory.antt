@@ -1,5 +1,5 @@
 -- What the device in memory means, what it keeps, and what a cut of the power may leave of it.
-use Rattle.std.specs.Prelude.{◌≡◌, ℕ, zero, suc, ◌-◌, ◌*◌, ◌^◌, ◌<◌, ◌≤◌, ◌⊎◌, List, map, length, take, drop, replicate, slice_index}
+use Rattle.std.specs.Prelude.{◌≡◌, ℕ, zero, suc, ◌*◌, ◌^◌, ◌<◌, ◌≤◌, ◌⊎◌, List, map, length, take, drop, replicate, slice_index}
 use Rattle.std.specs.List.{range_with_len, AllByRecursion as All}
 use Rattle.device.specs.Meaning.{Meaning, Cell, words, own, endless, Cut}
 use Rattle.device.specs.declared.Layer.TheVariants.{Memory}

@@ -258,7 +258,8 @@ mod tests {
             },
         } = refused;
         assert!(rt; current.len() == 3 && persisted.len() == 4 && marks.len() == 2);
-        assert_eq!(rt; current[0], 9);
+        let first = current[0];
+        assert_eq!(rt; first, 9);
         assert!(rt; Memory::open(current, persisted, marks, 0).is_err());
         Ok(())
     }

@@ -1,12 +1,11 @@
 -- What a change of the device leaves alone.
-use Rattle.std.proofs.Common.{◌≡◌, ℕ, zero, suc, ◌+◌, ◌-◌, ◌%◌, ◌<◌, ◌≤◌, min, Bool, true, false, cond, ◌||◌, T, eqb, ◌⊎◌, List, [], ◌∷◌, ◌++◌, length, get_or, take, set, Some, None, Ok, Err, Option, Result, sym, refl, ap, ◌∙◌, subst, ap₂, inl, inr, arith, eqb→eq}
-use lib.Dec.{eqb_refl}
+use Rattle.std.proofs.Common.{◌≡◌, ℕ, zero, suc, ◌+◌, ◌<◌, ◌≤◌, min, Bool, true, false, T, eqb, ◌⊎◌, List, [], ◌∷◌, ◌++◌, length, take, set, Some, None, Option, sym, refl, ap, ◌∙◌, subst, inl, inr, arith, eqb→eq}
 use Rattle.std.proofs.lemmas.Bool.{cases_eq, cases_lt}
 use Rattle.std.proofs.lemmas.List.{get_or_past}
-use Rattle.device.specs.Meaning.{Content, Content.words, Cell, Meaning, blocks_of, current_at, flushed_cell, written_cell, written, flushed, no_cell, spent}
-use Rattle.device.specs.Cuts.{Op, Op.write, Op.flush, Choice, Choice.old, Choice.new, Choice.other, Cutting, apply, replay, cut, cut_cell, remains, cell_at}
-use Rattle.device.proofs.Choices.{cut_at, cut_blocks, flush_at, write_at, write_off, blocks_apply, blocks_replay, width_replay}
-use Rattle.page.specs.Slot.{Root, Table, slot_words, slot_read, SlotFits, every, rooted}
+use Rattle.device.specs.Meaning.{Content, Cell, Meaning, blocks_of, flushed_cell, written_cell, written, no_cell}
+use Rattle.device.specs.Cuts.{Op, Op.write, Op.flush, Choice, Cutting, apply, replay, cut, cut_cell, remains, cell_at}
+use Rattle.device.proofs.Choices.{cut_at, flush_at, write_at, write_off, blocks_apply}
+use Rattle.page.specs.Slot.{Root, Table}
 use Rattle.model.specs.Plain.{place}
 use Rattle.model.specs.TreeBlocks.{elem, AllGood, Tree, tree_at, reach, form, Good, Each}
 use Rattle.model.proofs.TreeLaws.{elem_left, elem_right, elem_cases, tree_same, good_one, fit_inside, reach_form}

@@ -1,9 +1,9 @@
 -- What an accepted call finds: a sound tree, and free blocks enough.
-use Rattle.std.proofs.Common.{◌≡◌, ℕ, zero, suc, ◌+◌, ◌-◌, ◌*◌, ◌%◌, ◌<◌, ◌≤◌, Bool, true, false, cond, not, ◌&&◌, ◌||◌, T, eqb, ltb, leb, ◌⊎◌, List, [], ◌∷◌, ◌++◌, length, ℤ, is_some, Some, None, Option, sym, refl, ap, ◌∙◌, subst, ap₂, inl, inr, arith}
+use Rattle.std.proofs.Common.{◌≡◌, ℕ, zero, suc, ◌+◌, ◌-◌, ◌*◌, ◌%◌, ◌<◌, ◌≤◌, Bool, true, false, cond, not, ◌&&◌, T, ltb, leb, List, [], ◌∷◌, length, ℤ, is_some, Some, None, Option, sym, refl, ap, ◌∙◌, subst, arith}
 use Rattle.std.specs.Option.{option_or}
-use Rattle.std.proofs.lemmas.Bool.{cond_both, and_parts, and_from, leb-true, ltb-true, le-leb, lt-ltb, ltb-false}
+use Rattle.std.proofs.lemmas.Bool.{cond_both, and_parts, and_from, leb-true, le-leb, lt-ltb, ltb-false}
 use Rattle.device.specs.Meaning.{Content, Content.words, Meaning, blocks_of, current_at}
-use Rattle.page.specs.Slot.{Root, Table, slot_words, slot_read, SlotFits, every, rooted}
+use Rattle.page.specs.Slot.{Root, Table, slot_words, every, rooted}
 use Rattle.page.proofs.Slots.{slot_back}
 use Rattle.tree.specs.Node.{ins, del, map_e}
 use Rattle.tree.specs.Tree.{rows, Wf}
@@ -11,14 +11,14 @@ use Rattle.tree.proofs.Over.{map_ins, map_del}
 use Rattle.tree.proofs.Puts.{five_high}
 use Rattle.tree.proofs.Laid.{same_rule}
 use Rattle.model.specs.declared.refusal.Refusal.{Refusal}
-use Rattle.model.specs.declared.refusal.Refusal.TheVariants.{Number, Speed, Angle, Absent, Taken, Short, Worn}
-use Rattle.model.specs.Plain.{Map, place, has, first, early, Ask}
+use Rattle.model.specs.declared.refusal.Refusal.TheVariants.{Number, Speed, Angle, Absent, Short, Worn}
+use Rattle.model.specs.Plain.{place, has, first, early}
 use Rattle.table.specs.Rows.{off_angle}
 use Rattle.model.specs.Plain.{Ask.create, Ask.put, Ask.remove}
-use Rattle.model.specs.TreeBlocks.{Tree, Form, form, bare_tree, raw, angle, rows_of, root_of, Change, Change.begin, Change.puts, Change.takes, changed_on, top_level, tree_at, Each, Fit, Good, AllGood, elem}
-use Rattle.model.specs.Model.{Trees, Model, Shapes, shape_of, unused, used, free, height, holds, needs, late, refusal, tree_of, source, new_tree, forms}
+use Rattle.model.specs.TreeBlocks.{Tree, bare_tree, raw, angle, rows_of, Change, Change.begin, Change.puts, Change.takes, changed_on, top_level, tree_at, Each, Fit, Good, elem}
+use Rattle.model.specs.Model.{Model, Shapes, unused, used, free, height, holds, needs, late, refusal, tree_of, new_tree}
 use Rattle.model.specs.World.{Tables, trees, model_of, shape, sizes, slot_in}
-use Rattle.model.proofs.TreeLaws.{Allowed, done, needed, grow_wf, grow_rows, grow_fit, begin_fit, angle_raw, raw_range}
+use Rattle.model.proofs.TreeLaws.{Allowed, needed, grow_rows, grow_fit, begin_fit, angle_raw, raw_range}
 use Rattle.model.proofs.Frames.{Goods, good_at, OnPlace, trees_place, tree_at?}
 use Rattle.model.proofs.Places.{form_of?, forms_place}
 

@@ -1,18 +1,17 @@
 -- The law of histories.
-use Rattle.std.proofs.Common.{◌≡◌, ℕ, zero, suc, ◌+◌, ◌-◌, ◌%◌, ◌<◌, ◌≤◌, min, Bool, true, false, cond, ◌||◌, T, eqb, ltb, ◌⊎◌, List, [], ◌∷◌, ◌++◌, length, get_or, take, set, ℤ, Some, None, Ok, Err, Option, Result, sym, refl, ap, ◌∙◌, subst, ap₂, inl, inr, arith, lit≤, eqb→eq, length-set}
+use Rattle.std.proofs.Common.{◌≡◌, ℕ, zero, suc, ◌+◌, ◌%◌, ◌<◌, ◌≤◌, min, Bool, true, false, cond, ◌||◌, T, eqb, ltb, ◌⊎◌, List, [], ◌∷◌, ◌++◌, length, get_or, take, set, Some, None, Ok, Err, Option, Result, sym, refl, ap, ◌∙◌, subst, ap₂, inl, inr, arith, lit≤, eqb→eq, length-set}
 use mathlib.Core.Path.{fun_ext}
 use lib.Dec.{eqb_refl}
-use Rattle.std.specs.Option.{option_or}
-use Rattle.device.specs.Meaning.{Content, Content.words, Cell, Meaning, blocks_of, current_at, flushed_cell, written_cell, written, flushed, no_cell, spent}
+use Rattle.device.specs.Meaning.{Content, Content.words, Cell, Meaning, blocks_of, current_at, written_cell, written}
 use Rattle.device.specs.Cuts.{Op, Op.write, Op.flush, Choice, Choice.old, Choice.new, Choice.other, Cutting, apply, replay, cut, cut_cell, remains, cell_at}
 use Rattle.device.proofs.Choices.{cut_at, cut_blocks, flush_at, write_at, write_off, blocks_apply, blocks_replay, width_replay}
-use Rattle.page.specs.Slot.{Root, Table, slot_words, slot_read, SlotFits, every, rooted}
+use Rattle.page.specs.Slot.{Root, Table, slot_words}
 use Rattle.model.specs.declared.refusal.Refusal.{Refusal}
 use Rattle.model.specs.declared.refusal.Refusal.TheVariants.{Worn, Last, Shape}
 use Rattle.model.specs.Plain.{Map, place, Ask, Call, Answer, answer, first, blank}
 use Rattle.model.specs.Plain.{Ask.create, Ask.clone, Ask.delete, Ask.put, Ask.remove, Ask.get, Ask.at, Ask.rows, Ask.summary, Ask.seal, Call.ask, Call.finish, Call.reopen, Call.mount, Answer.done, Answer.refused}
-use Rattle.model.specs.TreeBlocks.{Tree, Change, Change.begin, Change.puts, Change.takes, elem, AllGood, form, without_angle, raw, root_of, tree_at, Stored, Fit, Good, Each, new_blocks, changed}
-use Rattle.model.specs.Walk.{walk, Fault}
+use Rattle.model.specs.TreeBlocks.{Tree, Change, Change.begin, Change.puts, Change.takes, elem, raw, root_of, tree_at, Stored, Fit, Good, Each, new_blocks, changed}
+use Rattle.model.specs.Walk.{walk}
 use Rattle.model.proofs.TreeLaws.{elem_left, elem_right, elem_cases, tree_stored, writes_form}
 use Rattle.model.proofs.Walks.{walk_none}
 use Rattle.model.proofs.Counting.{same_length, targets_length, places_length}
@@ -20,9 +19,9 @@ use Rattle.std.proofs.lemmas.List.{length-map}
 use Rattle.tree.specs.Apart.{places}
 use Rattle.model.proofs.Grants.{slot_law, sizes_parts, create_fit, put_fit, remove_fit}
 use Rattle.std.proofs.lemmas.Bool.{cases_eq}
-use Rattle.model.specs.Model.{Trees, Model, Shapes, shape_of, maps_of, refusal, late, free, used, holds, tree_of, source, new_tree, writes_for, standing, forms, reaches, left_after, next, reply, after, with_change, broken, landed, finished, cut_model, working≔}
+use Rattle.model.specs.Model.{Trees, Model, maps_of, refusal, late, free, used, holds, source, new_tree, writes_for, standing, forms, reaches, left_after, next, reply, after, with_change, broken, landed, finished, cut_model, working≔}
 use Rattle.model.specs.World.{Tables, Mode, Mode.mounted, Mode.sealed, Mode.down, placed, finished_tables, Event, Event.did, Event.broke, Event.lost, trees, model_of, shape, latest, walked, faulty, found, sizes, slot_in, fresh, Formatted, FreeWrite, Changed, targets, Effect, Quiet, Mounts, Does, Step, Run, Traced, bare, Refines}
-use Rattle.model.proofs.Frames.{Calm, calm_cut, Still, Keeps, Off, IsWrite, left_replay, layer_replay, calm_apply, calm_replay, keeps_writes, cut_calm, keeps_cut, keeps_flush, still_keeps, Same, each_take, each_map, OnPlace, good_at, good_set, Goods, Reaches, trees_same, good_same, good_inside, trees_place, trees_put, tree_at?}
+use Rattle.model.proofs.Frames.{Calm, calm_cut, Still, Keeps, Off, IsWrite, left_replay, layer_replay, calm_apply, calm_replay, keeps_writes, cut_calm, keeps_cut, keeps_flush, still_keeps, Same, each_take, each_map, OnPlace, good_at, good_set, Goods, Reaches, trees_same, good_same, good_inside, trees_place, trees_put}
 
 -- 0 and 1, and no more, stand below 2
 small_in : (n : ℕ) (R : List ℕ) → n < 2 → T (elem n (0 ∷ 1 ∷ R))

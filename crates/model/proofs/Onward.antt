@@ -1,19 +1,19 @@
 -- Each call that is in turn has a step.
-use Rattle.std.proofs.Common.{◌≡◌, ℕ, zero, suc, ◌+◌, ◌*◌, ◌%◌, ◌<◌, ◌≤◌, Bool, true, false, cond, T, List, [], ◌∷◌, ◌++◌, length, take, set, ℤ, Some, None, Ok, Err, Option, Result, sym, refl, ap, ◌∙◌, subst, ap₂, subst₂, arith}
-use Rattle.device.specs.Meaning.{Content, Meaning, blocks_of, current_at, written, flushed, spent}
-use Rattle.device.specs.Cuts.{Op, Op.write, Op.flush, Cutting, apply, replay, cut, cell_at}
+use Rattle.std.proofs.Common.{◌≡◌, ℕ, zero, suc, ◌%◌, Bool, true, false, cond, T, List, [], ◌∷◌, take, set, Some, None, Ok, Err, Option, Result, sym, refl, ap, ◌∙◌, subst, subst₂, arith}
+use Rattle.device.specs.Meaning.{Content, Meaning, blocks_of, current_at, written}
+use Rattle.device.specs.Cuts.{Op, Op.write, Op.flush, replay, cut}
 use Rattle.device.proofs.Choices.{flush_at, write_at, write_off, blocks_apply, blocks_replay}
 use Rattle.page.specs.Slot.{Root, Table, slot_words}
 use Rattle.model.specs.declared.refusal.Refusal.{Refusal}
 use Rattle.model.specs.Plain.{Map, place, Ask, Call, Answer, answer, blank, early, has}
 use Rattle.model.specs.Plain.{Ask.create, Ask.clone, Ask.delete, Ask.put, Ask.remove, Ask.get, Ask.at, Ask.rows, Ask.summary, Ask.seal, Call.ask, Call.finish, Call.reopen, Call.mount, Answer.done, Answer.refused}
-use Rattle.model.specs.TreeBlocks.{Tree, form, elem, Change, Change.begin, Change.puts, Change.takes, raw, root_of, tree_at, reach, Stored, bare_tree}
-use Rattle.model.specs.Model.{Model, maps_of, refusal, late, free, used, holds, tree_of, source, new_tree, next, broken, cut_model}
-use Rattle.model.specs.World.{Tables, Mode, Mode.mounted, Mode.sealed, Mode.down, placed, finished_tables, Event, Event.did, Event.broke, Event.lost, trees, model_of, shape, found, fresh, sizes, Formatted, Changed, Effect, Quiet, Mounts, Does, Step, Run, bare}
+use Rattle.model.specs.TreeBlocks.{form, elem, Change, Change.begin, Change.puts, Change.takes, raw, root_of, tree_at, reach, Stored}
+use Rattle.model.specs.Model.{Model, maps_of, refusal, late, used, holds, tree_of, new_tree, next, broken, cut_model}
+use Rattle.model.specs.World.{Tables, Mode, Mode.mounted, Mode.sealed, Mode.down, placed, finished_tables, Event, Event.did, Event.broke, Event.lost, model_of, shape, found, fresh, sizes, Changed, Effect, Quiet, Mounts, Step, Run, bare}
 use Rattle.model.specs.Right.{Ends}
 use Rattle.model.specs.Onward.{Turn, Goes_on, formatting, Formats}
 use Rattle.model.proofs.TreeLaws.{elem_left, elem_right, stored_same, reach_form}
-use Rattle.model.proofs.Frames.{Goods, Reaches}
+use Rattle.model.proofs.Frames.{Reaches}
 use Rattle.model.proofs.Grants.{Start, put_start, remove_start, enough, create_fit, put_fit, remove_fit, either_none, sizes_parts}
 use Rattle.model.proofs.Histories.{Base, Fine, step_fine, broke_fine, idle_cut, formatted_fine, in_working}
 use Rattle.model.proofs.Progress.{script, met}

@@ -1,9 +1,9 @@
 -- Places of trees, of their shapes and of their rows.
-use Rattle.std.proofs.Common.{◌≡◌, ℕ, zero, suc, Bool, true, false, cond, List, [], ◌∷◌, set, Some, None, Option, sym, refl, ap, ◌∙◌, subst, ap₂}
+use Rattle.std.proofs.Common.{◌≡◌, ℕ, zero, suc, [], ◌∷◌, set, Some, None, Option, sym, refl, ap, ◌∙◌}
 use Rattle.page.specs.Slot.{Root}
-use Rattle.model.specs.Plain.{Map, Maps, place}
-use Rattle.model.specs.TreeBlocks.{Tree, Form, Change, Change.begin, Change.puts, Change.takes, form, bare_tree, rows_of}
-use Rattle.model.specs.Model.{Trees, Forms, Model, Shapes, forms, maps_of, shape_of, form_at, tree_of, source}
+use Rattle.model.specs.Plain.{Map, place}
+use Rattle.model.specs.TreeBlocks.{Tree, Form, form, bare_tree, rows_of}
+use Rattle.model.specs.Model.{Trees, Forms, Model, forms, maps_of, shape_of, form_at, tree_of}
 
 abbrev pub form_of? : Option (Root × Tree) → Option (Root × Form)
 form_of? None = None

@@ -1,19 +1,18 @@
 -- What a call's step asks can be met: the new blocks, written in any order, make the new tree stand.
-use Rattle.std.proofs.Common.{◌≡◌, ℕ, zero, suc, ◌+◌, ◌-◌, ◌*◌, ◌%◌, ◌<◌, ◌≤◌, Bool, true, false, cond, not, ◌&&◌, ◌||◌, T, eqb, ltb, leb, ◌⊎◌, List, [], ◌∷◌, ◌++◌, map, length, get_or, set, ℤ, Some, None, Option, sym, refl, ap, ◌∙◌, subst, ap₂, inl, inr, ⊎_elim, arith}
-use Rattle.std.proofs.lemmas.Bool.{cond_both, cases_eq}
+use Rattle.std.proofs.Common.{◌≡◌, ℕ, zero, suc, ◌+◌, ◌-◌, ◌*◌, ◌<◌, ◌≤◌, T, List, [], ◌∷◌, ◌++◌, map, length, get_or, set, Some, None, Option, sym, refl, ap, ◌∙◌, subst, ap₂, inl, inr, arith}
+use Rattle.std.proofs.lemmas.Bool.{cond_both}
 use Rattle.std.proofs.lemmas.List.{map-append}
 use Rattle.device.specs.Meaning.{Content, Content.words, Meaning, blocks_of, current_at, written}
-use Rattle.device.specs.Cuts.{Op, Op.write, Op.flush, replay, cell_at}
-use Rattle.device.proofs.Choices.{write_at, write_off, blocks_apply, width_replay}
-use Rattle.page.specs.Block.{Block, encode, decode, Layout}
-use Rattle.page.specs.Slot.{Root, Table}
+use Rattle.device.specs.Cuts.{Op, Op.write, replay, cell_at}
+use Rattle.device.proofs.Choices.{write_at, write_off, blocks_apply}
+use Rattle.page.specs.Block.{Block, encode, Layout}
 use Rattle.page.proofs.Exact.{back}
-use Rattle.tree.specs.Node.{map_e, Every, flat}
+use Rattle.tree.specs.Node.{map_e, Every}
 use Rattle.tree.specs.Tree as tree
 use Rattle.tree.specs.Tree.{Pay, All, over, over_root}
 use Rattle.tree.specs.Stored.{same}
-use Rattle.tree.specs.Layout.{next, Ascends, Start, Child, Laid}
-use Rattle.tree.specs.Numbered.{onward, beside, numbers, numbered}
+use Rattle.tree.specs.Layout.{next, Ascends, Child}
+use Rattle.tree.specs.Numbered.{beside, numbers, numbered}
 use Rattle.tree.specs.Apart.{taking, along, collect, collected, its_place, places, In, Distinct}
 use Rattle.tree.proofs.Kept.{kept}
 use Rattle.tree.proofs.Over.{map_length}
@@ -25,7 +24,7 @@ use Rattle.tree.proofs.Puts.{five_high}
 use Rattle.tree.proofs.Laid.{same_rule}
 use Rattle.model.specs.TreeBlocks.{root_of}
 use Rattle.model.specs.Model.{unused, used, free, source, new_tree}
-use Rattle.model.specs.World.{Tables, Mode, Mode.mounted, placed, model_of, shape, FreeWrite, Changed, targets}
+use Rattle.model.specs.World.{Tables, Mode.mounted, placed, model_of, shape, FreeWrite, Changed, targets}
 use Rattle.model.proofs.Walks.{Angles, rows_angles}
 use Rattle.model.proofs.TreeLaws.{needed, changed_low}
 use Rattle.model.proofs.Grants.{unused_each, free_each, sizes_parts}

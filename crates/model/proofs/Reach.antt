@@ -1,5 +1,5 @@
 -- The blocks in use are those that the places reach.
-use Rattle.std.proofs.Common.{◌≡◌, ℕ, zero, suc, ◌+◌, ◌-◌, ◌<◌, ◌≤◌, Bool, true, false, cond, T, eqb, ltb, ◌⊎◌, List, [], ◌∷◌, ◌++◌, map, get_or, Some, None, Option, sym, refl, ap, ◌∙◌, subst, ap₂, inl, inr, ⊎_elim, arith}
+use Rattle.std.proofs.Common.{◌≡◌, ℕ, zero, suc, ◌-◌, ◌<◌, Bool, true, false, cond, T, ltb, ◌⊎◌, List, [], ◌∷◌, ◌++◌, map, get_or, Some, None, Option, sym, refl, ap, ◌∙◌, subst, ap₂, inl, inr, ⊎_elim, arith}
 use Rattle.std.proofs.lemmas.Bool.{eq-eqb, cases_eq, ne_eqb, ltb-true, lt-ltb}
 use Rattle.device.specs.Meaning.{Content, Meaning, blocks_of, current_at}
 use Rattle.page.specs.Block.{Block}
@@ -8,12 +8,12 @@ use Rattle.tree.specs.Node.{map_e, Every, flat}
 use Rattle.tree.specs.Tree as tree
 use Rattle.tree.specs.Tree.{Pay, Marks, All}
 use Rattle.tree.specs.Apart.{In}
-use Rattle.page.specs.Block.{block_in, block_at, children, kids_of}
+use Rattle.page.specs.Block.{block_in, block_at, kids_of}
 use Rattle.counts.specs.Counts.{one, occ, Reached, root, child, spare}
 use Rattle.counts.proofs.Steps.{alive_is_reached}
-use Rattle.model.specs.TreeBlocks.{Tree, form, reach, elem, payload, block_of, top_level, tree_at, Good, AllGood}
-use Rattle.model.specs.Model.{used, free, unused, reaches, forms}
-use Rattle.model.specs.World.{Tables, shape, trees}
+use Rattle.model.specs.TreeBlocks.{form, reach, elem, payload, block_of, top_level, tree_at}
+use Rattle.model.specs.Model.{used, unused}
+use Rattle.model.specs.World.{Tables, shape}
 use Rattle.model.specs.Reach.{roots_of, rootings, Standing, UseIsReach, FreeByCounts}
 use Rattle.model.proofs.TreeLaws.{elem_left, elem_right, elem_cases, elem_here, elem_head, reach_form}
 use Rattle.model.proofs.Frames.{Goods, Reaches}

@@ -1,24 +1,23 @@
 -- The plain tables follow the trees.
-use Rattle.std.proofs.Common.{◌≡◌, ℕ, zero, suc, ◌%◌, Bool, true, false, cond, not, ◌||◌, eqb, ◌⊎◌, List, [], ◌∷◌, ◌++◌, take, set, ℤ, is_some, Some, None, Ok, Err, Option, sym, refl, ap, ◌∙◌, subst, ap₂, subst₂, inl, inr}
+use Rattle.std.proofs.Common.{◌≡◌, ℕ, zero, suc, ◌%◌, Bool, true, false, cond, ◌||◌, eqb, ◌⊎◌, List, [], ◌∷◌, ◌++◌, take, set, ℤ, is_some, Some, None, Option, sym, refl, ap, ◌∙◌, subst, ap₂, subst₂, inl, inr}
 use mathlib.Core.Path.{fun_ext}
 use Rattle.std.specs.Option.{option_or}
-use Rattle.device.specs.Meaning.{Content, Content.words, Cell, Meaning, blocks_of, current_at, flushed_cell, written_cell, written, flushed, no_cell, spent}
-use Rattle.device.specs.Cuts.{Op, Op.write, Op.flush, Choice, Choice.old, Choice.new, Choice.other, Cutting, apply, replay, cut, cut_cell, remains, cell_at}
-use Rattle.device.proofs.Choices.{cut_at, cut_blocks, flush_at, write_at, write_off, blocks_apply, blocks_replay, width_replay}
-use Rattle.page.specs.Slot.{Root, Table, slot_words, slot_read, SlotFits, every, rooted}
+use Rattle.device.specs.Meaning.{Meaning}
+use Rattle.device.specs.Cuts.{Op, Choice, Choice.old, Choice.new, Choice.other, Cutting, replay, cut}
+use Rattle.page.specs.Slot.{Root}
 use Rattle.model.specs.declared.refusal.Refusal.{Refusal}
 use Rattle.model.specs.Plain as plain
 use Rattle.model.specs.Plain.{Map, Maps, Plain, place, has, map_at, early, answer, Ask, Call, Answer}
 use Rattle.model.specs.Plain.{Ask.create, Ask.clone, Ask.delete, Ask.put, Ask.remove, Ask.get, Ask.at, Ask.rows, Ask.summary, Ask.seal, Call.ask, Call.finish, Call.reopen, Call.mount, Answer.refused}
-use Rattle.model.specs.TreeBlocks.{Tree, Form, Change, Change.begin, Change.puts, Change.takes, form, bare_tree, elem, keys, keys_of, rows_of, raw, Each}
+use Rattle.model.specs.TreeBlocks.{Tree, Change, Change.begin, Change.puts, Change.takes, bare_tree, elem, keys, keys_of, rows_of, raw, Each}
 use Rattle.tree.specs.Node.{ins, del}
 use Rattle.tree.specs.Reads.{look}
 use Rattle.model.proofs.TreeLaws.{keys_form}
 use Rattle.model.proofs.Places.{form_of?, rows_of?, forms_place, maps_place, form_at_lem}
 use Rattle.model.proofs.Grants.{create_rows, put_rows, remove_rows}
-use Rattle.model.specs.Model.{Trees, Model, maps_of, forms, shape_of, free, form_at, holds, late, refusal, tree_of, source, new_tree, standing, with_change, after, next, reply, broken, landed, cut_model}
-use Rattle.model.specs.World.{Mode, Mode.mounted, Mode.sealed, Mode.down, Event, Event.did, Event.broke, Event.lost, Run, Formatted, Step, found, bare, model_of, trees, shape, Tables, FreeWrite, Changed, Effect, Quiet}
-use Rattle.model.specs.Right.{Outcome, fed, plain_of, Shows, Takes, Right, Ends, Onward, OneRun, Histories}
+use Rattle.model.specs.Model.{Trees, Model, maps_of, forms, shape_of, holds, late, refusal, tree_of, new_tree, standing, with_change, after, next, reply, broken, landed, cut_model}
+use Rattle.model.specs.World.{Mode, Mode.mounted, Mode.sealed, Mode.down, Event, Event.did, Event.broke, Event.lost, Run, Step, bare, model_of, shape, Tables, FreeWrite, Changed, Effect, Quiet}
+use Rattle.model.specs.Right.{Outcome, fed, Shows, Takes, Right, Ends, Onward, Histories}
 use Rattle.model.proofs.Histories.{Base, Fine, step_fine, broke_fine, idle_cut, formatted_fine, fine_table}
 use Rattle.model.proofs.TwoRuns.{two_runs}
 

@@ -3,24 +3,22 @@ use Rattle.std.proofs.Common.{◌≡◌, ℕ, zero, suc, ◌+◌, ◌-◌, ◌*�
 use lib.Dec.{eqb_refl}
 use Rattle.std.proofs.lemmas.Bool.{cond_both, lt-ltb, le-ltb, ltb-false}
 use Rattle.device.specs.Meaning.{Content}
-use Rattle.page.specs.Block.{Block}
 use Rattle.page.specs.Slot.{Root}
-use Rattle.tree.specs.Node.{map_e, Every, flat, ins, del, tally}
+use Rattle.tree.specs.Node.{map_e, Every, flat, ins, del}
 use Rattle.tree.specs.Tree as tree
 use Rattle.tree.specs.Tree.{Pay, Rows, rows, Marks, blocks, All, Wf, over, over_root, put_root, rem_root, raise, lower, only}
 use Rattle.tree.specs.Stored.{same, is_new}
-use Rattle.tree.specs.Layout.{Laid}
 use Rattle.tree.specs.Numbered.{numbered, news, bare, Known}
 use Rattle.tree.proofs.Stores.{all_both, over_tally}
 use Rattle.tree.proofs.Kept.{kept}
-use Rattle.tree.proofs.Over.{natural, over_rows, map_ins, map_del}
+use Rattle.tree.proofs.Over.{natural, over_rows}
 use Rattle.tree.proofs.Laid.{same_rule}
 use Rattle.tree.proofs.Puts.{put_sound}
 use Rattle.tree.proofs.Removes.{remove_sound}
 use Rattle.tree.proofs.Numbering.{shape_kept, numbers_natural, numbers_from, over_root_twice}
 use Rattle.table.specs.Rows.{off_angle}
 use Rattle.page.specs.Block.{block_in}
-use Rattle.model.specs.TreeBlocks.{Tree, Form, form, bare_tree, raw, angle, rows_of, keys, keys_of, reach, elem, root_of, Change, Change.begin, Change.puts, Change.takes, without_angle, changed, changed_on, writes, entries_in, pay_at, top_level, tree_at, payload, block_of, Stored, Each, Fit, Good, AllGood}
+use Rattle.model.specs.TreeBlocks.{Tree, form, raw, angle, rows_of, keys, keys_of, reach, elem, root_of, Change, Change.begin, Change.puts, Change.takes, without_angle, changed, changed_on, writes, entries_in, pay_at, top_level, tree_at, payload, block_of, Stored, Each, Fit, Good}
 
 -- membership
 pub elem_left : (b : ℕ) (xs ys : List ℕ) → T (elem b xs) → T (elem b (xs ++ ys))

@@ -1,10 +1,9 @@
 -- Two runs that differ in angles.
-use Rattle.std.proofs.Common.{◌≡◌, ℕ, zero, suc, ◌%◌, Bool, true, false, cond, not, ◌||◌, T, eqb, ltb, ◌⊎◌, List, [], ◌∷◌, map, get_or, take, set, ℤ, pos, negsuc, Some, None, Option, sym, refl, ap, ◌∙◌, subst, ap₂, inl, inr, eqb→eq}
+use Rattle.std.proofs.Common.{◌≡◌, ℕ, zero, suc, ◌%◌, Bool, true, false, cond, not, ◌||◌, T, ltb, ◌⊎◌, List, [], ◌∷◌, map, get_or, take, set, ℤ, pos, negsuc, Some, None, Option, sym, refl, ap, ◌∙◌, subst, ap₂, inl, inr, eqb→eq}
 use Rattle.std.specs.Option.{option_or}
-use Rattle.device.specs.Meaning.{Content, Content.words, Cell, Meaning, blocks_of, current_at, flushed_cell, written_cell, written, flushed, no_cell, spent}
-use Rattle.device.specs.Cuts.{Op, Op.write, Op.flush, Choice, Choice.old, Choice.new, Choice.other, Cutting, apply, replay, cut, cut_cell, remains, cell_at}
-use Rattle.device.proofs.Choices.{cut_at, cut_blocks, flush_at, write_at, write_off, blocks_apply, blocks_replay, width_replay}
-use Rattle.page.specs.Slot.{Root, Table, slot_words, slot_read, SlotFits, every, rooted}
+use Rattle.device.specs.Meaning.{Meaning, spent}
+use Rattle.device.specs.Cuts.{Choice, Choice.old, Choice.new, Choice.other, Cutting, replay, cut}
+use Rattle.page.specs.Slot.{Root}
 use Rattle.table.specs.Rows.{off_angle}
 use Rattle.table.specs.Angles.{angle_at}
 use Rattle.model.specs.declared.refusal.Refusal.{Refusal}
@@ -15,8 +14,8 @@ use Rattle.model.specs.TreeBlocks.{Tree, Form, Change, Change.begin, Change.puts
 use Rattle.model.proofs.Places.{form_of?, rows_of?, forms_place, maps_place, forms_set, form_at_lem}
 use Rattle.model.proofs.TreeLaws.{grow_form}
 use Rattle.tree.specs.Reads.{look}
-use Rattle.model.specs.Model.{Trees, Forms, Model, Shapes, forms, maps_of, shape_of, free, form_at, holds, late, refusal, left_after, tree_of, source, new_tree, writes_for, standing, with_change, after, next, reply, finished, cut_model, landed, broken, working≔}
-use Rattle.model.specs.World.{Mode, Mode.mounted, Mode.down, Event, Run, Formatted, found, bare, model_of}
+use Rattle.model.specs.Model.{Forms, Model, Shapes, forms, maps_of, shape_of, free, form_at, holds, late, refusal, left_after, tree_of, source, new_tree, standing, with_change, after, next, reply, finished, cut_model, landed, broken, working≔}
+use Rattle.model.specs.World.{Mode, Mode.mounted, Mode.down, Run, bare, model_of}
 use Rattle.model.specs.TwoRuns as tw
 use Rattle.model.specs.TwoRuns.{Both, Both.alike, one, two, Legal, Twin, legal, Marks, clear, finished_marks, touched, same_angle, mark_ask, marked, unless, refusal_in, Unseen, Remain, Every, Finds, Agree, TwoRuns}
 use Rattle.model.proofs.Histories.{Fine, step_fine, broke_fine, idle_cut, formatted_fine, fine_finds}

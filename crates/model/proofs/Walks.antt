@@ -1,5 +1,5 @@
 -- The walk is exact.
-use Rattle.std.proofs.Common.{◌≡◌, ℕ, zero, suc, ◌+◌, ◌-◌, ◌*◌, ◌<◌, ◌≤◌, Bool, true, false, cond, ◌&&◌, T, eqb, ltb, leb, List, [], ◌∷◌, ◌++◌, length, Some, None, Option, sym, refl, ap, ◌∙◌, subst, ap₂, arith}
+use Rattle.std.proofs.Common.{◌≡◌, ℕ, zero, suc, ◌<◌, ◌≤◌, Bool, true, false, ◌&&◌, eqb, ltb, leb, List, [], ◌∷◌, ◌++◌, length, Some, None, Option, sym, refl, ap, ◌∙◌, subst, ap₂, arith}
 use Rattle.std.specs.Option.{option_or}
 use Rattle.std.proofs.lemmas.Bool.{eq-eqb, eqb-true, and_parts, and_from, leb-true, ltb-true, le-leb, lt-ltb, false≢true}
 use Rattle.device.specs.Meaning.{Content, Content.words, Content.damaged}
@@ -8,11 +8,11 @@ use Rattle.page.specs.Slot.{Root, Table, every, rooted}
 use Rattle.tree.specs.Node.{map_e, Every, flat}
 use Rattle.tree.specs.Tree as tree
 use Rattle.tree.specs.Tree.{Pay, Rows, rows, All, Enough}
-use Rattle.tree.specs.Layout.{next, Ascends, Start, Child, Laid}
+use Rattle.tree.specs.Layout.{next, Ascends, Start, Child}
 use Rattle.tree.proofs.Over.{map_length}
 use Rattle.page.specs.Block.{block_in}
-use Rattle.model.specs.TreeBlocks.{Tree, entries_in, pay_at, top_level, tree_at, payload, block_of, Stored, Each, Fit, Good, AllGood}
-use Rattle.model.specs.Walk.{Fault, ascending, starts, payable, least, well_made, among, if_made, in_block, in_content, fault_below, fault_at, fault_of, pair_with, walk, WalkExact}
+use Rattle.model.specs.TreeBlocks.{entries_in, pay_at, top_level, tree_at, payload, block_of, Each, Good, AllGood}
+use Rattle.model.specs.Walk.{Fault, ascending, starts, payable, least, well_made, if_made, in_block, in_content, fault_below, fault_at, fault_of, pair_with, walk, WalkExact}
 
 abbrev IsNone : {A : Type 0} → Option A → Type 0
 IsNone None = Unit {0}

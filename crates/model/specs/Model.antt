@@ -1,6 +1,6 @@
 -- The volume by its trees; and without angles, by their shapes.
-use Rattle.std.specs.Prelude.{◌≡◌, ℕ, zero, suc, ◌+◌, ◌-◌, ◌*◌, ◌%◌, Bool, true, false, cond, List, [], ◌∷◌, ◌++◌, length, ℤ, pos, is_some, Some, None, Option, ◌==◌, nat_lt, slice_set}
-use Rattle.std.specs.Option.{option_or, option_map}
+use Rattle.std.specs.Prelude.{ℕ, zero, suc, ◌+◌, ◌-◌, ◌*◌, ◌%◌, Bool, cond, List, [], ◌∷◌, ◌++◌, length, Some, None, Option, ◌==◌, nat_lt, slice_set}
+use Rattle.std.specs.Option.{option_or}
 use Rattle.device.specs.declared.LayerMark.{LayerMark}
 use Rattle.device.specs.Meaning.{spent}
 use Rattle.device.specs.Cuts.{Cutting, Choice, Choice.old, Choice.new, Choice.other}
@@ -9,7 +9,7 @@ use Rattle.model.specs.declared.refusal.Refusal.TheVariants.{Short, Worn, Last}
 use Rattle.model.specs.Plain.{Map, Maps, Ask, Call, Answer, place, has, first, early, answer}
 use Rattle.model.specs.Plain.{Ask.create, Ask.clone, Ask.delete, Ask.put, Ask.remove, Ask.get, Ask.at, Ask.rows, Ask.summary, Ask.seal, Call.ask, Call.finish, Call.reopen, Call.mount}
 use Rattle.model.specs.Plain.{Answer.done, Answer.refused}
-use Rattle.page.specs.Slot.{Root, Table}
+use Rattle.page.specs.Slot.{Root}
 use Rattle.model.specs.TreeBlocks.{Tree, Form, Change, Change.begin, Change.puts, Change.takes, without_angle, form, bare_tree, elem, raw, rows_of, keys_of, reach, root_of, changed_on, writes}
 
 abbrev pub Trees : Type 0

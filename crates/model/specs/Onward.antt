@@ -1,5 +1,5 @@
 -- No history is stuck: each call that is in turn has a step; and a format leads to a formatted device.
-use Rattle.std.specs.Prelude.{◌≡◌, ℕ, true, List, [], ◌∷◌, ℤ, Option}
+use Rattle.std.specs.Prelude.{◌≡◌, ℕ, true, List, [], ◌∷◌}
 use Rattle.device.specs.Meaning.{Meaning, blocks_of}
 use Rattle.device.specs.Cuts.{Op, Op.write, Op.flush, replay}
 use Rattle.page.specs.Slot.{slot_words}

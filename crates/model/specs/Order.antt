@@ -1,5 +1,5 @@
 -- The order of the checks: what a call's arguments and the tables refuse comes before what blocks and writes refuse.
-use Rattle.std.specs.Prelude.{◌≡◌, ℕ, Bool, false, ℤ, Some, nat_lt}
+use Rattle.std.specs.Prelude.{◌≡◌, ℕ, false, ℤ, Some, nat_lt}
 use Rattle.table.specs.Rows.{off_angle}
 use Rattle.model.specs.declared.refusal.Refusal.{Refusal}
 use Rattle.model.specs.declared.refusal.Refusal.TheVariants.{Absent}

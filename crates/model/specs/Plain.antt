@@ -1,6 +1,6 @@
 -- The plain tables: what a history of calls means, without blocks.
-use Rattle.std.specs.Prelude.{◌≡◌, ℕ, zero, suc, ◌+◌, Bool, true, false, cond, not, ◌||◌, List, [], ◌∷◌, take, ℤ, pos, negsuc, ◌≤ℤ◌, is_some, Some, None, Option, nat_le, nat_lt, slice_index_or, slice_set}
-use Rattle.std.specs.Option.{option_or, option_map}
+use Rattle.std.specs.Prelude.{ℕ, suc, Bool, cond, not, List, [], ◌∷◌, take, ℤ, is_some, Some, None, Option, nat_le, nat_lt, slice_index_or, slice_set}
+use Rattle.std.specs.Option.{option_or}
 use Rattle.tree.specs.Node.{ins, del}
 use Rattle.tree.specs.Reads.{look}
 use Rattle.model.specs.declared.refusal.Refusal.{Refusal}

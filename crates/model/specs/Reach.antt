@@ -1,9 +1,8 @@
 -- What the places reach, block by block; and the free blocks by the counts.
-use Rattle.std.specs.Prelude.{◌≡◌, ℕ, zero, suc, ◌-◌, ◌<◌, Bool, true, false, cond, T, ltb, List, [], ◌∷◌, ◌++◌, map, length, get_or, Some, None, Option}
+use Rattle.std.specs.Prelude.{◌≡◌, ℕ, T, List, [], ◌∷◌, ◌++◌, length, Some, None}
 use Rattle.device.specs.Meaning.{Meaning, blocks_of, current_at}
-use Rattle.page.specs.Block.{Block, block_at, kids_of}
+use Rattle.page.specs.Block.{block_at}
 use Rattle.page.specs.Slot.{Table}
-use Rattle.page.specs.Block.{block_in}
 use Rattle.counts.specs.Counts.{occ, Counted, Reached, free_blocks}
 use Rattle.model.specs.TreeBlocks.{elem, Good, AllGood}
 use Rattle.model.specs.Model.{used, free}

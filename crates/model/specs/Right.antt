@@ -1,10 +1,10 @@
 -- The law of histories: every answer is that of the plain tables; and two runs that differ in angles.
-use Rattle.std.specs.Prelude.{◌≡◌, ℕ, zero, suc, ◌%◌, ◌⊎◌, List, [], ◌∷◌, ◌++◌, take, ℤ, Some, None, Ok, Err, Option, Result}
+use Rattle.std.specs.Prelude.{◌≡◌, ℕ, zero, suc, ◌%◌, ◌⊎◌, List, [], ◌∷◌, ◌++◌, take, None, Ok, Option}
 use Rattle.device.specs.Meaning.{Meaning, current_at}
-use Rattle.device.specs.Cuts.{Op, Op.write, Op.flush, Cutting, cut, replay}
+use Rattle.device.specs.Cuts.{Op, Op.write, Op.flush, cut, replay}
 use Rattle.page.specs.Slot.{Table, slot_words}
 use Rattle.model.specs.declared.refusal.Refusal.{Refusal}
-use Rattle.model.specs.Plain.{Map, Call, Answer, Plain, Call.ask, Call.finish, Call.reopen, Call.mount, Ask.create, Ask.clone, Ask.delete, Ask.put, Ask.remove, Ask.get, Ask.at, Ask.rows, Ask.summary, Ask.seal, start, next, reply, finished}
+use Rattle.model.specs.Plain.{Map, Call, Plain, Call.ask, Call.finish, Call.reopen, Call.mount, Ask.create, Ask.clone, Ask.delete, Ask.put, Ask.remove, Ask.get, Ask.at, Ask.rows, Ask.summary, Ask.seal, start, next, reply, finished}
 use Rattle.model.specs.TreeBlocks.{Each}
 use Rattle.model.specs.Model.{maps_of, late}
 use Rattle.model.specs.World.{Tables, Mode, Mode.mounted, Mode.sealed, Mode.down, Event, Event.did, Event.broke, Event.lost, Run, Formatted, found, bare, trees, shape, FreeWrite}

@@ -1,6 +1,6 @@
 -- Trees on the blocks of a device; what a call makes of one; what a sound tree keeps.
-use Rattle.std.specs.Prelude.{◌≡◌, ℕ, zero, suc, ◌+◌, ◌-◌, ◌*◌, ◌<◌, ◌≤◌, Bool, true, false, cond, ◌||◌, List, [], ◌∷◌, ◌++◌, map, length, ℤ, pos, negsuc, Some, None, Option, ◌==◌, nat_lt, slice_index}
-use Rattle.device.specs.Meaning.{Content, Content.words, Content.damaged}
+use Rattle.std.specs.Prelude.{◌≡◌, ℕ, zero, suc, ◌+◌, ◌-◌, ◌<◌, ◌≤◌, Bool, false, cond, ◌||◌, List, [], ◌∷◌, map, ℤ, pos, negsuc, Some, None, Option, ◌==◌, nat_lt, slice_index}
+use Rattle.device.specs.Meaning.{Content}
 use Rattle.page.specs.Block.{Block, block_in}
 use Rattle.page.specs.Slot.{Root}
 use Rattle.tree.specs.Node.{map_e}

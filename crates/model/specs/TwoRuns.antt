@@ -1,5 +1,5 @@
 -- Two runs with the same cuts, alike but for angles that are put, and which clones an angle may have touched.
-use Rattle.std.specs.Prelude.{◌≡◌, ℕ, zero, suc, Bool, true, false, cond, not, ◌||◌, ◌⊎◌, List, [], ◌∷◌, map, take, replicate, ℤ, pos, negsuc, Some, None, Ok, Err, Option, Result, ◌==◌, slice_index_or, slice_set}
+use Rattle.std.specs.Prelude.{◌≡◌, ℕ, suc, Bool, false, not, ◌||◌, ◌⊎◌, List, [], ◌∷◌, map, take, replicate, ℤ, pos, negsuc, Some, None, Ok, Option, ◌==◌, slice_index_or, slice_set}
 use Rattle.device.specs.Meaning.{Meaning}
 use Rattle.device.specs.Cuts.{Op, Cutting, cut, replay}
 use Rattle.page.specs.Slot.{Table}

@@ -1,5 +1,5 @@
 -- Mount's walk: the first fault in order, clones ascending, each block before its children, left to right.
-use Rattle.std.specs.Prelude.{◌≡◌, ℕ, zero, suc, ◌+◌, ◌-◌, ◌*◌, ◌<◌, ◌≤◌, Bool, true, false, cond, ◌&&◌, List, [], ◌∷◌, length, Some, None, Option, ◌==◌, nat_le, nat_lt}
+use Rattle.std.specs.Prelude.{◌≡◌, ℕ, zero, suc, Bool, true, false, ◌&&◌, List, [], ◌∷◌, length, Some, None, Option, ◌==◌, nat_le, nat_lt}
 use Rattle.std.specs.Option.{option_or}
 use Rattle.device.specs.declared.LayerMark.{LayerMark}
 use Rattle.device.specs.Meaning.{Content, Content.words, Content.damaged}

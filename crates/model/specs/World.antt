@@ -1,18 +1,17 @@
 -- The volume on its device, what each call does, histories of calls and cuts, and the law of histories.
-use Rattle.std.specs.Prelude.{◌≡◌, ℕ, zero, suc, ◌+◌, ◌-◌, ◌*◌, ◌%◌, ◌<◌, ◌≤◌, Bool, true, false, cond, ◌&&◌, T, ◌⊎◌, List, [], ◌∷◌, ◌++◌, map, length, take, ℤ, Some, None, Ok, Err, Option, Result, ◌==◌, nat_le, slice_set}
-use Rattle.std.specs.Option.{option_or, option_map}
+use Rattle.std.specs.Prelude.{◌≡◌, ℕ, suc, ◌%◌, ◌<◌, ◌≤◌, Bool, true, cond, ◌&&◌, T, List, [], ◌∷◌, take, Some, None, Ok, Err, Option, Result, ◌==◌, nat_le, slice_set}
 use Rattle.device.specs.Meaning.{Content, Content.words, Content.damaged, Meaning, blocks_of, current_at}
-use Rattle.device.specs.Cuts.{Op, Op.write, Op.flush, Cutting, apply, replay, cut, cell_at}
-use Rattle.page.specs.Slot.{Root, Table, slot_words, slot_read}
+use Rattle.device.specs.Cuts.{Op, Op.write, Op.flush, Cutting, replay, cut, cell_at}
+use Rattle.page.specs.Slot.{Table, slot_words, slot_read}
 use Rattle.counts.specs.Counts.{occ}
 use Rattle.model.specs.declared.refusal.Refusal.{Refusal}
 use Rattle.model.specs.declared.refusal.Refusal.TheVariants.{NoVolume, Shape, Damaged, Malformed}
 use Rattle.model.specs.Plain.{Map, Ask, Call, Answer, place, answer, blank}
 use Rattle.model.specs.Plain.{Ask.create, Ask.clone, Ask.delete, Ask.put, Ask.remove, Ask.get, Ask.at, Ask.rows, Ask.summary, Ask.seal, Call.ask, Call.finish, Call.reopen, Call.mount}
 use Rattle.model.specs.Plain.{Answer.done, Answer.refused}
-use Rattle.model.specs.TreeBlocks.{Tree, Change, Change.begin, Change.puts, Change.takes, without_angle, form, elem, raw, tree_at, Stored, root_of, Each, new_blocks}
+use Rattle.model.specs.TreeBlocks.{Change, Change.begin, Change.puts, Change.takes, elem, raw, tree_at, Stored, root_of, Each, new_blocks}
 use Rattle.model.specs.Walk.{Fault, Fault.Damage, Fault.Malform, walk}
-use Rattle.model.specs.Model.{Trees, Model, Shapes, shape_of, maps_of, refusal, free, used, holds, tree_of, source, new_tree, writes_for, next, reply, broken, cut_model}
+use Rattle.model.specs.Model.{Trees, Model, Shapes, shape_of, maps_of, refusal, free, used, holds, source, new_tree, next, reply, broken, cut_model}
 
 pub record Tables : Type 0 where
   pub working : Table

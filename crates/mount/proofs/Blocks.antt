@@ -1,5 +1,5 @@
 -- One block: its own fault, and what is known where it has none.
-use Rattle.std.proofs.Common.{◌≡◌, ℕ, zero, suc, ◌<◌, ◌≤◌, Bool, true, false, cond, ◌&&◌, ltb, leb, List, [], ◌∷◌, length, Some, None, Ok, Err, Option, Result, sym, refl, ap, ◌∙◌, subst, arith}
+use Rattle.std.proofs.Common.{◌≡◌, ℕ, ◌<◌, ◌≤◌, Bool, true, false, cond, ◌&&◌, ltb, leb, List, length, Some, None, Ok, Err, Option, Result, sym, refl, ap, ◌∙◌, subst, arith}
 use Rattle.std.proofs.lemmas.Bool.{and_parts, leb-true}
 use Rattle.std.specs.Option.{option_or}
 use Rattle.device.specs.declared.Layer.{Layer}
@@ -9,14 +9,12 @@ use Rattle.device.proofs.Calls.{reading_at}
 use Rattle.page.specs.Block.{Block, decode, block_in, block_at, read, fits, same, encode}
 use Rattle.page.specs.View.{view}
 use Rattle.page.specs.declared.page.Page.{Page}
-use Rattle.model.specs.declared.refusal.Refusal.{Refusal}
 use Rattle.model.specs.declared.refusal.Refusal.TheVariants as refusals
 use Rattle.model.specs.TreeBlocks.{entries_in}
-use Rattle.model.specs.Walk.{Fault, Fault.Damage, Fault.Malform, well_made, if_made, in_block, in_content, fault_below, fault_at}
+use Rattle.model.specs.Walk.{Fault, well_made, if_made, in_block, in_content, fault_below, fault_at}
 use Rattle.model.proofs.Walks.{content_part, Made, made_parts}
 use Rattle.mount.specs.declared.walk.Due.{Due}
-use Rattle.mount.specs.declared.walk.Met.{Met}
-use Rattle.mount.specs.Due.{own_fault, first_fault, passes, refusal_of, met_at, Loaded}
+use Rattle.mount.specs.Due.{own_fault, first_fault, passes, met_at, Loaded}
 
 -- the fault at a block: its own, or else the first below
 module _ (n k l lo hi b : ℕ) (f : List (ℕ × ℕ) → Option Fault) where

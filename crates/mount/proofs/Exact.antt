@@ -1,7 +1,7 @@
 -- Mount accepts exactly the images that keep the layout.
-use Rattle.std.proofs.Common.{◌≡◌, ℕ, Bool, true, false, cond, List, Some, None, Ok, Err, Option, Result, sym, refl, ap, ◌∙◌, subst, arith}
+use Rattle.std.proofs.Common.{◌≡◌, ℕ, Bool, true, false, cond, Some, None, Ok, Err, Option, Result, sym, refl, ap, ◌∙◌, subst, arith}
 use Rattle.device.specs.Meaning.{Meaning, Lawful, blocks_of, current_at}
-use Rattle.page.specs.Slot.{Table, every, rooted}
+use Rattle.page.specs.Slot.{Table}
 use Rattle.model.specs.declared.refusal.Refusal.{Refusal}
 use Rattle.model.specs.declared.refusal.Refusal.TheVariants.{Shape, NoVolume}
 use Rattle.model.specs.TreeBlocks.{Good, AllGood}

@@ -1,5 +1,5 @@
 -- A device that can be formatted.
-use Rattle.std.proofs.Common.{◌≡◌, ℕ, ◌≤◌, true, cond, ltb, Some, None, ap, ◌∙◌}
+use Rattle.std.proofs.Common.{◌≡◌, ◌≤◌, true, cond, ltb, Some, None, ap, ◌∙◌}
 use Rattle.std.proofs.lemmas.Bool.{le-ltb}
 use Rattle.device.specs.Meaning.{Meaning, blocks_of}
 use Rattle.model.specs.declared.refusal.Refusal.TheVariants.{Shape, Worn}

@@ -1,18 +1,18 @@
 -- The counts of a walk that meets no fault.
-use Rattle.std.proofs.Common.{◌≡◌, ℕ, zero, suc, ◌+◌, ◌*◌, ◌<◌, ◌≤◌, Bool, true, false, cond, ◌&&◌, eqb, ltb, leb, ◌⊎◌, List, [], ◌∷◌, map, length, get_or, set, is_some, Some, None, Option, sym, refl, ap, ◌∙◌, subst, inl, inr, ⊎_elim, arith, length-set}
+use Rattle.std.proofs.Common.{◌≡◌, ℕ, zero, suc, ◌+◌, ◌<◌, true, cond, eqb, ltb, leb, ◌⊎◌, List, [], ◌∷◌, length, get_or, set, is_some, Some, None, Option, sym, refl, ap, ◌∙◌, subst, inl, inr, ⊎_elim, arith, length-set}
 use Rattle.std.proofs.lemmas.Bool.{and_parts, ltb-true, eq-eqb, ne_eqb, cases_eq, cases_lt}
 use Rattle.std.proofs.lemmas.List.{get_or-set_same, get_or-set_other}
 use Rattle.device.specs.Meaning.{Meaning, blocks_of, current_at}
 use Rattle.page.specs.Block.{Block, block_at, kids_of, level_of, children}
 use Rattle.page.specs.Slot.{every}
 use Rattle.tree.specs.Layout.{next}
-use Rattle.counts.specs.Counts.{one, occ, live, parents}
+use Rattle.counts.specs.Counts.{one, occ, live}
 use Rattle.counts.proofs.Parents.{one_same, one_other, live_pos, parents_set}
 use Rattle.model.specs.TreeBlocks.{entries_in}
 use Rattle.model.specs.Walk.{payable, fault_below, fault_at}
 use Rattle.model.proofs.Walks.{either_none}
 use Rattle.mount.specs.Tally.{Owing, bumped, along, tallied, kids, Fine}
-use Rattle.mount.proofs.Blocks.{Sound, sound_block}
+use Rattle.mount.proofs.Blocks.{sound_block}
 
 -- a reference that was owed is counted
 at_same : (cs : List ℕ) (x v b : ℕ) → x < length cs → b ≡ x → get_or (set cs x v) b 0 ≡ v

@@ -1,22 +1,22 @@
 -- The steps of the walk.
-use Rattle.std.proofs.Common.{◌≡◌, ℕ, zero, suc, ◌+◌, ◌-◌, ◌*◌, ◌<◌, ◌≤◌, Bool, true, false, cond, ◌&&◌, eqb, ltb, leb, List, [], ◌∷◌, map, length, get_or, drop, Some, None, Ok, Err, Option, Result, sym, refl, ap, ◌∙◌, subst, ⊎_elim, arith, length-set}
+use Rattle.std.proofs.Common.{◌≡◌, ℕ, zero, suc, ◌+◌, ◌-◌, ◌*◌, ◌<◌, ◌≤◌, Bool, true, false, cond, ◌&&◌, eqb, ltb, leb, List, [], ◌∷◌, length, get_or, drop, Some, None, Ok, Err, Option, sym, refl, ap, ◌∙◌, subst, ⊎_elim, arith, length-set}
 use Rattle.std.proofs.lemmas.Bool.{and_parts, ltb-true, eqb-true, cases_eq}
 use Rattle.std.proofs.lemmas.List.{length-map}
 use Rattle.std.specs.Option.{option_or}
 use Rattle.device.specs.Meaning.{Meaning, Content, blocks_of, current_at}
 use Rattle.page.specs.Block.{Block, block_at, kids_of, children}
 use Rattle.page.specs.Slot.{every}
-use Rattle.page.specs.View.{view, entries}
+use Rattle.page.specs.View.{entries}
 use Rattle.page.specs.declared.page.Page.{Page}
 use Rattle.tree.specs.Layout.{next}
-use Rattle.counts.specs.Counts.{one, occ, live, parents}
+use Rattle.counts.specs.Counts.{occ, parents}
 use Rattle.counts.proofs.Parents.{one_same, one_other}
 use Rattle.model.specs.declared.refusal.Refusal.{Refusal}
 use Rattle.model.specs.TreeBlocks.{entries_in}
 use Rattle.model.specs.Walk.{Fault, payable, among, fault_below, fault_at}
 use Rattle.mount.specs.declared.walk.Due.{Due}
 use Rattle.mount.specs.Due.{Usable, own_fault, first_fault, passes, Loaded}
-use Rattle.mount.specs.Tally.{Owing, bumped, along, tallied, kids, Room}
+use Rattle.mount.specs.Tally.{bumped, along, tallied, kids, Room}
 use Rattle.mount.proofs.Pages.{past}
 use Rattle.mount.proofs.Blocks.{split_fault, loaded_made, few}
 use Rattle.mount.proofs.Tally.{tallies, count_first}

@@ -1,5 +1,5 @@
 -- What the walk expects at a block, and what it answers there.
-use Rattle.std.specs.Prelude.{◌≡◌, ℕ, ◌≤◌, List, Some, None, Ok, Err, Option, Result}
+use Rattle.std.specs.Prelude.{◌≡◌, ℕ, ◌≤◌, Some, None, Ok, Err, Option, Result}
 use Rattle.device.specs.declared.DeviceFault.{DeviceFault}
 use Rattle.device.specs.Numbers.{fault_mark}
 use Rattle.device.specs.Meaning.{Meaning, blocks_of, current_at}

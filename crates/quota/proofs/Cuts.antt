@@ -1,6 +1,6 @@
 -- A cut below the quota layer is a cut of it.
-use Rattle.std.proofs.Common.{◌≡◌, ℕ, ◌<◌, ◌≤◌, ◌⊎◌, get_or, sym, ap, ◌∙◌, subst, inl, inr, ⊎_elim, arith}
-use Rattle.device.specs.Meaning.{Meaning, Cell, Content, Cut, CutCell, CutTo, flushed, no_cell, blocks_of}
+use Rattle.std.proofs.Common.{ℕ, ◌<◌, ◌≤◌, sym, ap, ◌∙◌, subst, inl, inr, ⊎_elim, arith}
+use Rattle.device.specs.Meaning.{Meaning, Cell, Content, Cut, CutCell, CutTo, flushed, blocks_of}
 use Rattle.device.specs.Cuts.{cell_at}
 use Rattle.device.proofs.Cuts.{cut_flushed}
 use Rattle.quota.specs.Limited.{limited, raised_cell, raised_content, limited_blocks, held_raised}

@@ -1,5 +1,5 @@
 -- How the quota layer's meaning follows the meaning below it.
-use Rattle.std.proofs.Common.{◌≡◌, ℕ, zero, suc, ◌<◌, ◌≤◌, List, [], ◌∷◌, map, length, get_or, take, set, Ok, Err, Result, sym, refl, ap, ◌∙◌, arith}
+use Rattle.std.proofs.Common.{◌≡◌, ℕ, zero, suc, ◌<◌, ◌≤◌, List, [], ◌∷◌, map, take, set, Ok, Err, Result, sym, refl, ap, ◌∙◌, arith}
 use Rattle.std.proofs.lemmas.List.{length-set, map-set, get_or-map, get_or-take, take-map, length-take-le}
 use Rattle.device.specs.declared.Layer.{Layer}
 use Rattle.device.specs.declared.Layer.TheVariants.{Quota}

@@ -1,7 +1,7 @@
 -- Products and quotients of rises and distances fit 32 bits.
 use Rattle.std.proofs.Common.{◌≡◌, ℕ, zero, suc, ◌*◌, ◌/◌, ◌^◌, ◌<◌, ◌≤◌, ℤ, pos, negsuc, ◌+ℤ◌, ◌-ℤ◌, ◌*ℤ◌, neg_ℤ, nat_abs, ◌≤ℤ◌, sym, refl, ap, ◌∙◌, subst, ap₂, div-le_self, arith, w32, SFits, to_z, of_z}
 use lib.IntN.{pos-*ℤ-pos, negsuc-*ℤ-pos}
-use lib.Signed.{quot_z, mag}
+use lib.Signed.{quot_z}
 use Rattle.std.proofs.lemmas.Nat.{mul-le}
 use Rattle.std.proofs.lemmas.Int.{ints, to_z-of_z, to_z_pos}
 

@@ -1,5 +1,5 @@
 -- The angle at a speed, over ascending rows.
-use Rattle.std.specs.Prelude.{ℕ, ◌-◌, Bool, cond, List, [], ◌∷◌, ℤ, pos, ◌+ℤ◌, ◌-ℤ◌, ◌*ℤ◌, Some, None, Option, int_div, nat_le, nat_lt}
+use Rattle.std.specs.Prelude.{ℕ, ◌-◌, cond, List, [], ◌∷◌, ℤ, pos, ◌+ℤ◌, ◌-ℤ◌, ◌*ℤ◌, Some, None, Option, int_div, nat_le, nat_lt}
 
 -- the second, if there is one
 abbrev pub later : {R : Type 0} → Option R → Option R → Option R

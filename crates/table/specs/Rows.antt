@@ -1,5 +1,5 @@
 -- Rows as pairs of a speed and an angle, and which numbers make one.
-use Rattle.std.specs.Prelude.{ℕ, ◌+◌, ◌-◌, Bool, cond, ℤ, pos, negsuc, ◌+ℤ◌, Ok, Err, Result, nat_lt}
+use Rattle.std.specs.Prelude.{ℕ, ◌+◌, ◌-◌, Bool, cond, ℤ, pos, negsuc, Ok, Err, Result, nat_lt}
 use Rattle.table.specs.declared.row.Row.{Row}
 use Rattle.table.specs.declared.row.RowFault.{RowFault}
 use Rattle.table.specs.declared.row.RowFault.TheVariants.{Speed, Angle}

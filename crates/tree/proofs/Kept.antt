@@ -1,5 +1,5 @@
 -- What is not written anew is as it was.
-use Rattle.std.proofs.Common.{◌≡◌, ℕ, zero, suc, ◌+◌, ◌-◌, eqb, ltb, ◌⊎◌, List, [], ◌∷◌, ◌++◌, length, take, drop, sym, refl, subst, inl, inr, ⊎_elim}
+use Rattle.std.proofs.Common.{◌≡◌, ℕ, zero, suc, ◌-◌, eqb, ltb, ◌⊎◌, List, [], ◌∷◌, ◌++◌, length, take, drop, sym, refl, subst, inl, inr, ⊎_elim}
 use Rattle.std.proofs.lemmas.Bool.{cond_both}
 use Rattle.tree.specs.Node.{ins, del, ahead, is_nil, at, beside, Every, Any, parts, opened, touch, kid, ready_right, ready_left}
 use Rattle.tree.specs.Tree.{Pay, Tree, All, put_e, rem_e, Root, put_root, only, lower, rem_root, Kept, Occurs, Unaltered}

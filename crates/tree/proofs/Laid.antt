@@ -1,4 +1,4 @@
-use Rattle.std.proofs.Common.{◌≡◌, ℕ, zero, suc, ◌-◌, ◌<◌, ◌≤◌, List, [], ◌∷◌, length, refl, subst, not-suc-le-zero, arith}
+use Rattle.std.proofs.Common.{◌≡◌, ℕ, zero, suc, ◌<◌, ◌≤◌, List, [], ◌∷◌, length, refl, subst, not-suc-le-zero, arith}
 use Rattle.tree.specs.Node.{Seg, Asc}
 use Rattle.tree.specs.Tree.{Tree, Cell}
 use Rattle.tree.specs.Layout.{next, Ascends, Start, Child, SameRule}

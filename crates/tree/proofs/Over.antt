@@ -1,5 +1,5 @@
 -- Marks and values do not steer put and remove.
-use Rattle.std.proofs.Common.{◌≡◌, ℕ, zero, suc, ◌+◌, ◌-◌, Bool, true, false, cond, eqb, ltb, List, [], ◌∷◌, ◌++◌, length, take, drop, refl, ap, ◌∙◌}
+use Rattle.std.proofs.Common.{◌≡◌, ℕ, zero, suc, ◌-◌, Bool, true, false, cond, eqb, ltb, List, [], ◌∷◌, ◌++◌, length, take, drop, refl, ap, ◌∙◌}
 use Rattle.tree.specs.Node.{ins, del, ahead, is_nil, first, at, beside, Seg, flat, map_e, parts, opened, touch, kid, ready_right, ready_left}
 use Rattle.tree.specs.Tree.{Pay, Tree, Gap, Rows, Cell, over, over_root, put_e, rem_e, Root, raise, put_root, only, lower, rem_root, Natural, OverRows}
 

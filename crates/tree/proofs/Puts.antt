@@ -1,5 +1,5 @@
 -- put keeps a tree well formed and sets one row.
-use Rattle.std.proofs.Common.{◌≡◌, ℕ, zero, suc, ◌+◌, ◌-◌, ◌*◌, ◌<◌, ◌≤◌, eqb, List, [], ◌∷◌, ◌++◌, length, take, drop, sym, refl, ap, ◌∙◌, append-nil, le_trans, le_refl, mul-le-mul_right, arith, length-drop, take-append-drop, length-take}
+use Rattle.std.proofs.Common.{◌≡◌, ℕ, zero, suc, ◌-◌, ◌*◌, ◌<◌, ◌≤◌, eqb, List, [], ◌∷◌, ◌++◌, length, take, drop, sym, refl, ap, ◌∙◌, append-nil, le_trans, le_refl, mul-le-mul_right, arith, length-drop, take-append-drop, length-take}
 use Rattle.std.proofs.lemmas.Bool.{cond_both, eqb-true, eqb-false}
 use Rattle.tree.specs.Node.{ins, first, Seg, Asc, flat, parts, opened, touch, kid}
 use Rattle.tree.specs.Tree.{Pay, Tree, Gap, Enough, Rows, rows, Cell, Span, put_e, Wf, Root, raise, PutSound, FiveHigh}

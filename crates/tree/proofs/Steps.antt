@@ -1,5 +1,5 @@
 -- Entries of numbered blocks: one of them, and a tree that has no fresh number.
-use Rattle.std.proofs.Common.{◌≡◌, ℕ, zero, suc, ◌-◌, ◌<◌, Bool, false, List, [], ◌∷◌, length, get_or, Some, None, Option, refl, ap₂, not-suc-le-zero, arith}
+use Rattle.std.proofs.Common.{◌≡◌, ℕ, zero, suc, ◌<◌, Bool, false, List, [], ◌∷◌, length, get_or, Some, None, Option, refl, ap₂, not-suc-le-zero, arith}
 use Rattle.std.proofs.lemmas.Bool.{cond-false}
 use Rattle.tree.specs.Node.{Every, map_e}
 use Rattle.tree.specs.Tree.{Pay, over}

@@ -1,5 +1,5 @@
 -- Put and remove on numbered blocks.
-use Rattle.std.proofs.Common.{◌≡◌, ℕ, zero, suc, ◌+◌, ◌-◌, ◌*◌, ◌≤◌, Bool, true, false, cond, List, [], ◌∷◌, Some, None, Option, sym, refl, ap, ◌∙◌, subst, arith}
+use Rattle.std.proofs.Common.{◌≡◌, ℕ, zero, suc, ◌+◌, ◌*◌, ◌≤◌, Bool, true, false, cond, List, [], ◌∷◌, Some, None, Option, sym, refl, ap, ◌∙◌, subst, arith}
 use Rattle.tree.specs.Node.{ins, del, flat, tally, Every, map_e}
 use Rattle.tree.specs.Tree.{Pay, Tree, Root, rows, Wf, Marks, blocks, All, over, over_root}
 use Rattle.tree.specs.Stored.{forget, same, is_new, is_fresh, PutNumbered, RemoveNumbered}

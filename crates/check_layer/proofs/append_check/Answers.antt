@@ -1,6 +1,5 @@
-use Rattle.std.proofs.Common.{◌≡◌, ℕ, ◌+◌, ◌-◌, List, [], ◌∷◌, ◌++◌, length, drop, set, sym, refl, ap, ◌∙◌, arith}
+use Rattle.std.proofs.Common.{◌≡◌, ℕ, ◌+◌, ◌-◌, List, [], ◌∷◌, ◌++◌, length, drop, set, refl, ap, ◌∙◌, arith}
 use Rattle.std.proofs.lemmas.List.{set_at, length-drop}
-use Rattle.check_layer.specs.Checked.{check_of}
 use Rattle.check_layer.proofs.append_check.Goals as goal
 
 one_left : (xs : List ℕ) (n : ℕ) → length xs ≡ n + 1 → (d : List ℕ) → d ≡ drop n xs → (x : ℕ) × (d ≡ x ∷ [])

@@ -1,7 +1,7 @@
-use Rattle.std.proofs.Common.{◌≡◌, ◌+◌, length, get_or, drop, sym, refl, ap, ◌∙◌, arith}
+use Rattle.std.proofs.Common.{◌+◌, get_or, drop, sym, ap, ◌∙◌, arith}
 use lib.Bits.{bit_xor}
 use Rattle.std.proofs.lemmas.List.{at_drop_more, at_drop_all}
-use Rattle.check_layer.specs.Checked.{check_of, check_from}
+use Rattle.check_layer.specs.Checked.{check_from}
 use Rattle.check_layer.proofs.check_word.Goals as goal
 
 pub loop-word-preserved : goal.loop-word-preserved

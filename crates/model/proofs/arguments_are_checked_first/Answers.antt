@@ -1,4 +1,4 @@
-use Rattle.std.proofs.Common.{◌≡◌, not, ap, ◌∙◌}
+use Rattle.std.proofs.Common.{ap}
 use Rattle.std.specs.Option.{option_or}
 use Rattle.model.specs.Order.{EarlyFirst, AbsentFirst}
 use Rattle.model.specs.Model.{late}

@@ -1,4 +1,4 @@
-use Rattle.std.proofs.Common.{◌≡◌, ℕ, true, List, [], Some, None, Err, vec_items, sym, refl, ap, ◌∙◌, subst, inl}
+use Rattle.std.proofs.Common.{◌≡◌, ℕ, true, List, [], Some, None, Err, vec_items, sym, ap, ◌∙◌, subst, inl}
 use Rattle.device.specs.Meaning.{Meaning, blocks_of, current_at}
 use Rattle.page.specs.Slot.{Table, every, rooted}
 use Rattle.page.specs.View.{slot_of}

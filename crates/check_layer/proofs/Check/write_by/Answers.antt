@@ -1,4 +1,4 @@
-use Rattle.std.proofs.Common.{◌≡◌, length, sym, ap, ◌∙◌, arith}
+use Rattle.std.proofs.Common.{length, sym, ap, ◌∙◌, arith}
 use Rattle.device.specs.Meaning.{passed, after_write}
 use Rattle.device.proofs.Calls.{writing_at}
 use Rattle.check_layer.specs.Checked.{with_check}

@@ -1,6 +1,5 @@
 use Rattle.std.proofs.Common.{sym, ◌∙◌}
 use Rattle.std.proofs.lemmas.List.{length-map}
-use Rattle.check_layer.specs.Checked.{checked_cell}
 use Rattle.check_layer.proofs.CheckDevice.blocks.Goals as goal
 
 pub returns : goal.returns

@@ -1,6 +1,6 @@
 use Rattle.std.proofs.Common.{◌≡◌, ◌+◌, ◌-◌, ◌<◌, ◌≤◌, length, replicate, sym, refl, ap, ◌∙◌, subst, arith}
 use Rattle.std.proofs.lemmas.List.{length-map}
-use Rattle.device.specs.Meaning.{Meaning, answered, filled, blocks_of}
+use Rattle.device.specs.Meaning.{answered, filled, blocks_of}
 use Rattle.device.specs.declared.Layer.TheVariants.{Check}
 use Rattle.device.proofs.Calls.{reading_short, reading_far}
 use Rattle.check_layer.specs.Checked.{Allowed, checked}

@@ -1,10 +1,10 @@
-use Rattle.std.proofs.Common.{◌≡◌, ℕ, ◌+◌, ◌<◌, ◌≤◌, List, length, get_or, drop, set, Some, vec_items, sym, refl, ap, ◌∙◌, subst, arith, length-set, rules}
+use Rattle.std.proofs.Common.{◌≡◌, ℕ, ◌+◌, ◌<◌, List, length, get_or, set, Some, vec_items, sym, ap, ◌∙◌, arith, length-set}
 use Rattle.std.proofs.lemmas.List.{drop_all}
-use Rattle.page.specs.Block.{kids_of, children}
+use Rattle.page.specs.Block.{kids_of}
 use Rattle.counts.specs.Counts.{add_all, Roomy}
 use Rattle.page.specs.declared.page.Page.{Page}
 use Rattle.page.specs.declared.page.Entry.{Entry}
-use Rattle.page.specs.View.{view, entries}
+use Rattle.page.specs.View.{view}
 use Rattle.page.proofs.Pages.{page_kids_length, page_kids_at}
 use Rattle.counts.proofs.Opens.{add_next, add_le}
 use Rattle.counts.proofs.Counts.add_kids.Goals as goal

@@ -1,4 +1,4 @@
-use Rattle.std.proofs.Common.{◌≡◌, ℕ, ◌+◌, ◌<◌, ◌≤◌, List, length, get_or, Some, vec_items, sym, refl, ap, ◌∙◌, subst, arith, rules}
+use Rattle.std.proofs.Common.{length, get_or, Some, vec_items, ap, arith}
 use Rattle.page.specs.Block.{kids_of}
 use Rattle.page.specs.View.{view}
 use Rattle.counts.proofs.Steps.{within as inside}

@@ -1,5 +1,5 @@
 use Rattle.std.proofs.Common.{◌≡◌, refl, arith}
-use Rattle.device.specs.Meaning.{Meaning, flushed, blocks_of}
+use Rattle.device.specs.Meaning.{flushed, blocks_of}
 use Rattle.mirror.specs.Mirrored.{Alike, mirrored}
 use Rattle.mirror.specs.Cuts.{CutsKept}
 use Rattle.mirror.proofs.Follows.{moved, alike_flushed}

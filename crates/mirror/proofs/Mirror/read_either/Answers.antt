@@ -1,4 +1,4 @@
-use Rattle.std.proofs.Common.{◌≡◌, ℕ, List, length, Err, Result, sym, refl, ap, ◌∙◌, arith}
+use Rattle.std.proofs.Common.{ℕ, List, length, Err, Result, refl, ap, ◌∙◌, arith}
 use Rattle.device.specs.declared.DeviceFault.{DeviceFault}
 use Rattle.device.specs.Meaning.{held, answered, filled, current_at}
 use Rattle.device.proofs.Calls.{reading_at}

@@ -1,5 +1,5 @@
 use Rattle.std.proofs.Common.{◌≡◌, ◌<◌, length, sym, refl, ap, ◌∙◌, arith}
-use Rattle.device.specs.Meaning.{Meaning, answered, filled, blocks_of}
+use Rattle.device.specs.Meaning.{answered, filled, blocks_of}
 use Rattle.device.specs.declared.Layer.TheVariants.{Mirror}
 use Rattle.device.proofs.Calls.{reading_short, reading_far}
 use Rattle.mirror.specs.Mirrored.{Alike, mirrored, mirrored_blocks}

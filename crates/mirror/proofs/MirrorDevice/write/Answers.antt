@@ -2,7 +2,7 @@ use Rattle.std.proofs.Common.{◌≡◌, ℕ, ◌<◌, ◌≤◌, length, Err, s
 use Rattle.device.specs.declared.LayerMark.{LayerMark}
 use Rattle.device.specs.declared.Layer.TheVariants.{Mirror}
 use Rattle.device.specs.declared.DeviceFault.TheVariants.{Worn}
-use Rattle.device.specs.Meaning.{Meaning, blocks_of, written}
+use Rattle.device.specs.Meaning.{blocks_of, written}
 use Rattle.device.proofs.Calls.{writing_short, writing_far, writing_at, spending_worn, spending_ok}
 use Rattle.mirror.specs.Mirrored.{Alike, mirrored, mirrored_blocks}
 use Rattle.mirror.proofs.Follows.{moved, mirrored_written, alike_written}

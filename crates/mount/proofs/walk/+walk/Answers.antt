@@ -1,12 +1,11 @@
-use Rattle.std.proofs.Common.{◌≡◌, ℕ, ◌+◌, ◌-◌, ◌<◌, ◌≤◌, Bool, true, false, cond, List, [], ◌∷◌, length, get_or, drop, is_err, None, Ok, Err, vec_items, sym, refl, ap, ◌∙◌, subst, arith}
+use Rattle.std.proofs.Common.{◌≡◌, ℕ, ◌+◌, ◌-◌, ◌<◌, Bool, cond, List, [], ◌∷◌, length, get_or, drop, is_err, None, Err, vec_items, sym, refl, ap, ◌∙◌, subst, arith}
 use Rattle.std.proofs.lemmas.Result.{err_from_is_err_and, IfOk-from_err}
-use Rattle.device.specs.Meaning.{Meaning, blocks_of, current_at}
+use Rattle.device.specs.Meaning.{Meaning, blocks_of}
 use Rattle.page.specs.View.{entries}
 use Rattle.page.specs.declared.page.Page.{Page}
 use Rattle.tree.specs.Layout.{next}
-use Rattle.model.specs.Walk.{fault_at}
 use Rattle.mount.specs.declared.walk.Due.{Due}
-use Rattle.mount.specs.Tally.{Room, bumped, tallied, kids}
+use Rattle.mount.specs.Tally.{Room, tallied, kids}
 use Rattle.mount.specs.Due.{Usable, Loaded, passes, first_fault}
 use Rattle.mount.proofs.Pages.{drop_entry}
 use Rattle.mount.proofs.Walking.{count_small, passes_none, child_fault, own_first, meet_length, start_room, child_in, child_first, no_fault, all_counted, next_room, among_step, length_step, along_step, room_step}

@@ -1,8 +1,8 @@
-use Rattle.std.proofs.Common.{◌≡◌, ℕ, Bool, ◌&&◌, leb, sym, ap, ◌∙◌}
+use Rattle.std.proofs.Common.{Bool, ◌&&◌, leb, sym, ap, ◌∙◌}
 use Rattle.std.proofs.lemmas.Bool.{le-leb, lt-leb}
 use Rattle.page.specs.Slot.{every}
 use Rattle.page.specs.View.{entries}
-use Rattle.model.specs.Walk.{starts, ascending, payable}
+use Rattle.model.specs.Walk.{ascending, payable}
 use Rattle.mount.proofs.Pages.{made_by}
 use Rattle.mount.proofs.walk.is_well_made.Goals as goal
 

@@ -1,4 +1,4 @@
-use Rattle.std.proofs.Common.{◌≡◌, ℕ, length, ap, ◌∙◌}
+use Rattle.std.proofs.Common.{◌≡◌, length, ap, ◌∙◌}
 use Rattle.device.specs.Meaning.{Meaning, blocks_of, current_at, words}
 use Rattle.page.specs.View.{view}
 use Rattle.model.specs.Walk.{well_made}

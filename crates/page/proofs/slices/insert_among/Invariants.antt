@@ -1,4 +1,4 @@
-use Rattle.std.proofs.Common.{◌≡◌, ◌-◌, ◌∷◌, ◌++◌, length, take, drop}
+use Rattle.std.proofs.Common.{◌≡◌, ◌∷◌, ◌++◌, length, take, drop}
 use Rattle.page.proofs.slices.insert_among.Given as goal
 
 abbrev pub invariant-loop-j : goal.invariant-loop-j

@@ -1,11 +1,11 @@
-use Rattle.std.proofs.Common.{◌≡◌, ℕ, ◌+◌, ◌<◌, cond, List, [], ◌∷◌, ◌++◌, map, length, get_or, take, set, Some, None, sym, ap, ◌∙◌, subst, ap₂, arith, length-set}
+use Rattle.std.proofs.Common.{◌≡◌, ℕ, ◌+◌, ◌<◌, List, [], ◌∷◌, ◌++◌, map, length, get_or, take, set, Some, sym, ap, ◌∙◌, subst, ap₂, arith, length-set}
 use Rattle.std.proofs.lemmas.List.{take_more, take_more_set, map-append, take_all}
 use Rattle.std.proofs.lemmas.Bool.{le-leb}
 use Rattle.page.specs.Block.{Block}
 use Rattle.page.specs.View.{pair}
 use Rattle.page.specs.declared.page.Entry.{Entry}
 use Rattle.table.specs.declared.row.Row.{Row}
-use Rattle.pitchset.specs.Stored.{entry_of, leaf_block}
+use Rattle.pitchset.specs.Stored.{entry_of}
 use Rattle.pitchset.proofs.store.leaf_of.Goals as goal
 
 -- one more entry, for one more row

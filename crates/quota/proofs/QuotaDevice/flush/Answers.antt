@@ -1,6 +1,6 @@
 use Rattle.std.proofs.Common.{◌≡◌, ap, ◌∙◌, arith}
 use Rattle.std.proofs.lemmas.List.{length-map}
-use Rattle.device.specs.Meaning.{Meaning, blocks_of, flushed_cell}
+use Rattle.device.specs.Meaning.{blocks_of, flushed_cell}
 use Rattle.quota.specs.Limited.{limited}
 use Rattle.quota.proofs.Follows.{limited_flushed}
 use Rattle.quota.proofs.QuotaDevice.flush.Goals as goal

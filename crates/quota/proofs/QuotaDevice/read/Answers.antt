@@ -1,5 +1,5 @@
 use Rattle.std.proofs.Common.{◌≡◌, ◌<◌, length, sym, refl, ap, ◌∙◌, subst, arith}
-use Rattle.device.specs.Meaning.{Meaning, answered, filled, passed}
+use Rattle.device.specs.Meaning.{answered, filled, passed}
 use Rattle.device.specs.declared.Layer.TheVariants.{Quota}
 use Rattle.device.proofs.Calls.{reading_far}
 use Rattle.quota.specs.Limited.{Allowed, limited, limited_blocks}

@@ -1,5 +1,5 @@
 use Rattle.std.proofs.Common.{◌≡◌, ◌<◌, length, sym, refl, ap, ◌∙◌, arith}
-use Rattle.device.specs.Meaning.{Meaning, blocks_of, passed, after_write}
+use Rattle.device.specs.Meaning.{blocks_of, passed, after_write}
 use Rattle.device.specs.declared.Layer.TheVariants.{Quota}
 use Rattle.device.proofs.Calls.{writing_far}
 use Rattle.quota.specs.Limited.{limited, limited_blocks}

@@ -1,8 +1,8 @@
-use Rattle.std.proofs.Common.{◌≡◌, ℕ, List, length, is_some, is_ok, sym, refl, ap, ◌∙◌, subst}
+use Rattle.std.proofs.Common.{length, is_some, is_ok, sym, refl, ap, ◌∙◌}
 use Rattle.std.proofs.lemmas.Bool.{false≢true}
 use Rattle.device.specs.Meaning.{answered, filled}
 use Rattle.page.specs.Block.{decode}
-use Rattle.counts.proofs.Reading.{Readable, readable, reads}
+use Rattle.counts.proofs.Reading.{readable, reads}
 use Rattle.counts.proofs.store.Store.fetch.Goals as goal
 
 pub unreachable-requires : goal.unreachable-requires

@@ -1,4 +1,4 @@
-use Rattle.std.proofs.Common.{◌≡◌, ℕ, ◌<◌, List, get_or, Some, vec_items, sym, refl, ap, ◌∙◌, subst, ap₂, rules}
+use Rattle.std.proofs.Common.{◌≡◌, ℕ, ◌<◌, List, get_or, Some, vec_items, sym, ap, ◌∙◌, subst, ap₂}
 use Rattle.device.specs.Meaning.{Meaning}
 use Rattle.page.specs.Block.{kids_of}
 use Rattle.page.specs.View.{view}

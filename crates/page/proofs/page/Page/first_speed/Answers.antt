@@ -1,4 +1,4 @@
-use Rattle.std.proofs.Common.{ℕ, ◌-◌, sym, ap, ◌∙◌, arith}
+use Rattle.std.proofs.Common.{ℕ, sym, ap, ◌∙◌, arith}
 use Rattle.page.specs.View.{entries}
 use Rattle.page.proofs.Pages.{entries_length, entries_at}
 use Rattle.page.proofs.Editing.{first_at}

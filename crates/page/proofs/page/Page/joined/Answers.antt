@@ -1,4 +1,4 @@
-use Rattle.std.proofs.Common.{◌≡◌, ℕ, ◌+◌, ◌-◌, ◌++◌, take, refl, ◌∙◌, subst, arith, length-set}
+use Rattle.std.proofs.Common.{◌≡◌, ℕ, ◌+◌, ◌++◌, take, refl, ◌∙◌, subst, arith, length-set}
 use Rattle.page.specs.View.{pair}
 use Rattle.page.proofs.Shifts.{join_start, join_step}
 use Rattle.page.proofs.Editing.{join_edit}

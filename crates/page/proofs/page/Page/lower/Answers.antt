@@ -1,4 +1,4 @@
-use Rattle.std.proofs.Common.{◌-◌, refl}
+use Rattle.std.proofs.Common.{refl}
 use Rattle.page.specs.View.{pair}
 use Rattle.page.proofs.Editing.{lower_edit}
 use Rattle.page.proofs.page.Page.lower.Goals as goal

@@ -1,4 +1,4 @@
-use Rattle.std.proofs.Common.{◌-◌, length, ap, arith, length-take}
+use Rattle.std.proofs.Common.{length, ap, arith, length-take}
 use Rattle.page.specs.View.{entries}
 use Rattle.page.proofs.Pages.{entries_length}
 use Rattle.page.proofs.page.Page.with_first_of.Goals as goal

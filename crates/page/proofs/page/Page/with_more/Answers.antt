@@ -1,4 +1,4 @@
-use Rattle.std.proofs.Common.{◌-◌, take, refl}
+use Rattle.std.proofs.Common.{take, refl}
 use Rattle.page.specs.View.{pair}
 use Rattle.page.proofs.Editing.{more_edit}
 use Rattle.page.proofs.page.Page.with_more.Goals as goal

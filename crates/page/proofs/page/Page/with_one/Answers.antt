@@ -1,4 +1,4 @@
-use Rattle.std.proofs.Common.{◌-◌, refl, arith}
+use Rattle.std.proofs.Common.{refl, arith}
 use Rattle.page.specs.View.{pair}
 use Rattle.page.proofs.Editing.{one_edit}
 use Rattle.page.proofs.page.Page.with_one.Goals as goal

@@ -1,4 +1,4 @@
-use Rattle.std.proofs.Common.{ℕ, suc, ◌+◌, ◌-◌, List, ◌∷◌, ◌++◌, length, take, drop, ap, ◌∙◌, arith}
+use Rattle.std.proofs.Common.{ℕ, suc, List, ◌∷◌, ◌++◌, length, take, drop, ap, ◌∙◌, arith}
 use Rattle.page.specs.View.{pair, entries}
 use Rattle.page.proofs.Pages.{entries_length}
 use Rattle.page.proofs.Editing.{out_length, fewer_edit}

@@ -1,4 +1,4 @@
-use Rattle.std.proofs.Common.{◌≡◌, ℕ, ◌-◌, get_or, sym, refl, ap, ◌∙◌, arith, below_more}
+use Rattle.std.proofs.Common.{◌≡◌, ℕ, get_or, sym, refl, ap, ◌∙◌, arith, below_more}
 use Rattle.page.specs.View.{entries}
 use Rattle.page.proofs.Pages.{entries_length, entries_at}
 use Rattle.page.proofs.Editing.{del_hit, del_miss}
