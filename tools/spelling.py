@@ -117,6 +117,8 @@ def main():
     for p in texts(".antt", ".rt"):
         old = read(p)
         new = turn(old)
+        if "AllByRecursion as All" in new:  # the library's own name for it, since All is another fact there
+            new = re.sub(r"(?<![\w.-])All(?![\w-])", "AllByRecursion", new.replace("AllByRecursion as All", "AllByRecursion"))
         for a, b in CRATES.items():
             if a in own:
                 new = re.sub(rf"\bRattle\.{a}\.", f"Rattle.{b}.", new)

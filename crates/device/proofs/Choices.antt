@@ -1,6 +1,6 @@
 -- Cuts by choice, and by the rule.
 use Rattle.std.proofs.Common.{◌≡◌, ℕ, zero, suc, ◌+◌, ◌<◌, ◌≤◌, List, [], ◌∷◌, map, length, get_or, sym, refl, ap, ◌∙◌, subst, ap₂, inl, inr, ⊎_elim, arith}
-use Rattle.std.specs.List.{AllByRecursion as All}
+use Rattle.std.specs.List.{AllByRecursion}
 use Rattle.std.proofs.lemmas.List.{length-map, get_or-set_same, get_or-set_other, length-set}
 use Rattle.device.specs.Meaning.{Content, Cell, Meaning, blocks_of, no_cell, written, written_cell, flushed, flushed_cell, Lawful, LawfulCell, Cut, CutCell, CutTo}
 use Rattle.device.specs.Cuts.{Op, Op.write, Op.flush, apply, replay, Choice, Choice.old, Choice.new, Choice.other, Cutting, remains, cut_cell, cut_cells, cut, cell_at, Fits, CutsAgree}
@@ -57,7 +57,7 @@ remains_cut w (suc (suc n)) old c e l f = inr (inr (omega arith, l.persisted))
 remains_cut w (suc (suc n)) new c e l f = inr (inr (omega arith, l.current))
 remains_cut w (suc (suc n)) (other x) c e l f = inr (inr (omega arith, f))
 
-all_at : (P : Cell → Type 0) (cs : List Cell) (b : ℕ) → All P cs → b < length cs → P (get_or cs b no_cell)
+all_at : (P : Cell → Type 0) (cs : List Cell) (b : ℕ) → AllByRecursion P cs → b < length cs → P (get_or cs b no_cell)
 all_at P [] b a h = absurd (omega arith)
 all_at P (c ∷ cs) zero a h = a.0
 all_at P (c ∷ cs) (suc b) a h = all_at P cs b a.1 (omega arith)

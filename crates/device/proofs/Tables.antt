@@ -1,6 +1,6 @@
 -- Lists that are made from a function of the index.
 use Rattle.std.proofs.Common.{◌≡◌, ℕ, zero, suc, ◌+◌, ◌<◌, ◌≤◌, List, [], ◌∷◌, map, length, get_or, set, sym, refl, ap, ◌∙◌, ⊎_elim, arith}
-use Rattle.std.specs.List.{range_with_len, AllByRecursion as All}
+use Rattle.std.specs.List.{range_with_len, AllByRecursion}
 use Rattle.std.proofs.lemmas.List.{same_lists, get_or-set_same, get_or-set_other, length-set}
 use Rattle.std.proofs.lemmas.Bool.{cases_eq}
 use Rattle.std.proofs.lemmas.List.FromFn.{length-map-range_with_len, get_or-map-range_with_len}
@@ -32,9 +32,9 @@ module _ {X : Type 0} where
       same_lists _ _ (length-map-range_with_len g 0 n ∙ sym (length-map-range_with_len f 0 n))
       (λ k d in'. let k< : k < n = omega (arith, length-map-range_with_len g 0 n) in get_or_table g n k d k< ∙ h k k< ∙ sym (get_or_table f n k d k<))
 
-  all_from : (P : X → Type 0) (f : ℕ → X) (a m : ℕ) → ((k : ℕ) → a ≤ k → k < a + m → P (f k)) → All P (map f (range_with_len a m))
+  all_from : (P : X → Type 0) (f : ℕ → X) (a m : ℕ) → ((k : ℕ) → a ≤ k → k < a + m → P (f k)) → AllByRecursion P (map f (range_with_len a m))
   all_from P f a zero h = tt
   all_from P f a (suc m) h = (h a (omega arith) (omega arith), all_from P f (a + 1) m (λ k low high. h k (omega arith) (omega arith)))
 
-  pub all_table : (P : X → Type 0) (f : ℕ → X) (n : ℕ) → ((k : ℕ) → k < n → P (f k)) → All P (map f (range_with_len 0 n))
+  pub all_table : (P : X → Type 0) (f : ℕ → X) (n : ℕ) → ((k : ℕ) → k < n → P (f k)) → AllByRecursion P (map f (range_with_len 0 n))
   all_table P f n h = all_from P f 0 n (λ k low high. h k (omega arith))

@@ -1,6 +1,6 @@
 -- What a block device means: its blocks with their contents and marks, and the writes that are left.
 use Rattle.std.specs.Prelude.{◌≡◌, ℕ, ◌+◌, ◌-◌, ◌^◌, ◌<◌, ◌≤◌, min, cond, ◌⊎◌, List, [], map, length, get_or, Ok, Err, Result, ◌==◌, nat_lt, slice_index_or, slice_set}
-use Rattle.std.specs.List.{AllByRecursion as All}
+use Rattle.std.specs.List.{AllByRecursion}
 use Rattle.device.specs.declared.Layer.{Layer}
 use Rattle.device.specs.declared.LayerMark.{LayerMark}
 use Rattle.device.specs.declared.DeviceFault.{DeviceFault}
@@ -102,7 +102,7 @@ flushed m = record { width = m.width; cells = map flushed_cell m.cells; left = m
 
 -- What every device's meaning keeps.
 abbrev pub Words : ℕ → List ℕ → Type 0
-Words w ws = (length ws ≡ w) × All (λ x. x < 2 ^ 32) ws
+Words w ws = (length ws ≡ w) × AllByRecursion (λ x. x < 2 ^ 32) ws
 
 abbrev pub Held : ℕ → Content → Type 0
 Held w (words ws) = Words w ws
@@ -119,7 +119,7 @@ pub record Lawful (m : Meaning) : Type 0 where
   pub few : blocks_of m ≤ 4096
   pub broad : 1 ≤ m.width
   pub narrow : m.width ≤ 64
-  pub cells : All (LawfulCell m.width) m.cells
+  pub cells : AllByRecursion (LawfulCell m.width) m.cells
   pub left : m.left ≤ 4294967295
 
 -- A cut of the power: a block of mark 0 keeps its content, one of mark 1 holds its persisted or its current content,

@@ -1,7 +1,7 @@
 -- What the log does to its image, and so to its meaning.
 use Rattle.std.proofs.Common.{◌≡◌, ℕ, ◌+◌, ◌-◌, ◌*◌, ◌/◌, ◌^◌, ◌<◌, ◌≤◌, min, true, false, cond, eqb, List, [], ◌∷◌, ◌++◌, map, length, get_or, take, drop, set, replicate, sym, refl, ap, ◌∙◌, subst, ⊎_elim, add-mul, arith}
 use borrow.Rule.Slice.PartMut.{put_mid}
-use Rattle.std.specs.List.{range_with_len, AllByRecursion as All}
+use Rattle.std.specs.List.{range_with_len, AllByRecursion}
 use Rattle.std.proofs.lemmas.Nat.{mul-le, le-div, div-add-mod'}
 use Rattle.std.proofs.lemmas.List.{length_push, length-set, length-append, length-take-le, length-drop, get_or-set_same, get_or-set_other, drop-take, drop-drop, drop-set-lt, get_or-take, get_or-drop, get_or_append_left, take-append-le, drop-append-le, take_all, drop_all}
 use Rattle.std.proofs.ByRecursion.{All-append, All-take, All-drop, All-set}
@@ -142,7 +142,7 @@ module _ (img : List ℕ) (n w k : ℕ) (s : Sound img n w k) where
   }
 
 -- a record is written
-module _ (img : List ℕ) (n w k : ℕ) (s : Sound img n w k) (b : ℕ) (ws : List ℕ) (h : b < n) (size : length ws ≡ w) (fits : All (λ x. x < 2 ^ 32) ws)
+module _ (img : List ℕ) (n w k : ℕ) (s : Sound img n w k) (b : ℕ) (ws : List ℕ) (h : b < n) (size : length ws ≡ w) (fits : AllByRecursion (λ x. x < 2 ^ 32) ws)
     (room : k < capacity (length img) w) (c : ℕ) (count : c ≡ w + 1) where
   abbrev at : ℕ
   at = place_of w k
@@ -228,7 +228,7 @@ pub room_of : (k w len : ℕ) → 1 ≤ len → k ≤ capacity len w → place_o
 room_of k w len one h =
     omega (arith, mul-le k (w + 1) ((len - 1) / (w + 1)) (w + 1) (omega arith) (omega arith), div-add-mod' (len - 1) (w + 1))
 
-pub opened_sound : (img : List ℕ) (n w k : ℕ) → k ≡ flushed_in img → Shaped (length img) n w → Formed img n w → All (λ x. x < 2 ^ 32) img → Sound img n w k
+pub opened_sound : (img : List ℕ) (n w k : ℕ) → k ≡ flushed_in img → Shaped (length img) n w → Formed img n w → AllByRecursion (λ x. x < 2 ^ 32) img → Sound img n w k
 opened_sound img n w k e s f fits =
     let h : k ≤ capacity (length img) w = omega (arith, e, f.within) in
     record {

@@ -1,7 +1,7 @@
 -- What the log keeps makes its meaning lawful.
 use Rattle.std.specs.Prelude.{◌≡◌, ℕ, zero, suc, ◌+◌, ◌*◌, ◌^◌, ◌<◌, ◌≤◌, Bool, true, false, cond, List, [], ◌∷◌, ◌++◌, length, take, drop, replicate, ◌==◌, refl}
 use Rattle.std.proofs.Common.{sym, ap, ◌∙◌, arith, add-mul}
-use Rattle.std.specs.List.{AllByRecursion as All}
+use Rattle.std.specs.List.{AllByRecursion}
 use Rattle.std.proofs.lemmas.Nat.{mul-le}
 use Rattle.std.proofs.lemmas.List.{length-take-le, length-drop, take-append-drop, length-replicate}
 use Rattle.std.proofs.ByRecursion.{All-take, All-drop}
@@ -18,7 +18,7 @@ words_if : (t : Bool) (w : ℕ) (x y : List ℕ) → Words w x → Words w y →
 words_if true w x y h k = h
 words_if false w x y h k = k
 
-last_words : (w b : ℕ) (rs : List Record) (d : List ℕ) → All (λ r. Words w r.1) rs → Words w d → Words w (last_of rs b d)
+last_words : (w b : ℕ) (rs : List Record) (d : List ℕ) → AllByRecursion (λ r. Words w r.1) rs → Words w d → Words w (last_of rs b d)
 last_words w b [] d h k = k
 last_words w b (r ∷ rs) d h k = last_words w b rs (cond (r.0 == b) r.1 d) h.1 (words_if (r.0 == b) w r.1 d h.0 k)
 
@@ -37,12 +37,12 @@ last_none (r ∷ rs) b d h = step (λ e. last_none rs b d e) (r.0 == b) h
 zeros : (w : ℕ) → Words w (replicate w 0)
 zeros w = (length-replicate {A = ℕ} w 0, all_zero w)
   where
-    all_zero : (n : ℕ) → All (λ x. x < 2 ^ 32) (replicate n 0)
+    all_zero : (n : ℕ) → AllByRecursion (λ x. x < 2 ^ 32) (replicate n 0)
     all_zero zero = tt
     all_zero (suc n) = (omega arith, all_zero n)
 
 module _ (img : List ℕ) (n w k : ℕ) (s : Sound img n w k) where
-  record_words : All (λ r. Words w r.1) (records w img k)
+  record_words : AllByRecursion (λ r. Words w r.1) (records w img k)
   record_words = all_table (λ r. Words w r.1) (record_at w img) k (λ i h. (
     length-take-le w (drop (place_of w i + 1) img) (simp length-drop (omega (arith, rows i k (w + 1) h, s.room))),
     All-take _ w _ (All-drop _ (place_of w i + 1) img s.fits),

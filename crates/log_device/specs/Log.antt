@@ -1,6 +1,6 @@
 -- What the log device means, what it keeps, and what a cut of the power may leave of it.
 use Rattle.std.specs.Prelude.{◌≡◌, ℕ, ◌+◌, ◌-◌, ◌*◌, ◌/◌, ◌%◌, ◌^◌, ◌<◌, ◌≤◌, min, cond, ◌⊎◌, List, [], ◌∷◌, map, length, take, drop, replicate, ◌==◌, slice_index}
-use Rattle.std.specs.List.{range_with_len, AllByRecursion as All}
+use Rattle.std.specs.List.{range_with_len, AllByRecursion}
 use Rattle.device.specs.Meaning.{Meaning, Cell, words, own, Cut}
 use Rattle.device.specs.declared.Layer.TheVariants.{Log}
 
@@ -96,7 +96,7 @@ pub record Sound (img : List ℕ) (n w k : ℕ) : Type 0 where
   pub head : kind_of (slice_index img 0) ≡ 8
   pub flushed : flushed_in img ≤ k
   pub kinds : AreRecords img n w k
-  pub fits : All (λ x. x < 2 ^ 32) img
+  pub fits : AllByRecursion (λ x. x < 2 ^ 32) img
 
 -- the words of the record of a number, counted from 1, or zeros for 0
 abbrev pub numbered : ℕ → List ℕ → ℕ → List ℕ

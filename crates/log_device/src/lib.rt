@@ -3,7 +3,7 @@
 #![tactic(auto)]
 
 ghost use Rattle.std.specs.Prelude.{◌≡◌, ◌+◌, ◌-◌, ◌*◌, ◌^◌, ◌<◌, ◌≤◌, ◌∷◌, length, take, drop, replicate, IfSome, MatchBool, MatchResult, slice_index, slice_set};
-ghost use Rattle.std.specs.List.{AllByRecursion as All};
+ghost use Rattle.std.specs.List.{AllByRecursion};
 ghost use Rattle.device.specs.declared.Layer.{Layer};
 ghost use Rattle.log_device.specs.Fit.{fit};
 ghost use Rattle.log_device.specs.Log.{kind_of, payload_of, word_of, log_of, opened_log, Sound, Indexed, records, last_of, capacity, IsRecord, AreRecords, Shaped, Formed, Outlasts};
@@ -108,7 +108,7 @@ fn are_records(image: &[u32], blocks: u32, width: usize, count: usize) -> bool
 fn is_formed(image: &[u32], blocks: u32, width: usize) -> bool
     requires { Shaped (length image.now) blocks width }
     ensures formed { MatchBool result (Formed image.now blocks width) (Formed image.now blocks width → ⊥) }
-    ensures fits { All (λ x. x < 2 ^ 32) image.now }
+    ensures fits { AllByRecursion (λ x. x < 2 ^ 32) image.now }
 {
     let head = image[0];
     let count = payload(head) as usize;

@@ -1,7 +1,7 @@
 -- What the device in memory does to its slices, and so to its meaning.
 use Rattle.std.proofs.Common.{◌≡◌, ℕ, zero, suc, ◌+◌, ◌-◌, ◌*◌, ◌^◌, ◌<◌, ◌≤◌, min, List, map, length, get_or, take, drop, set, replicate, Ok, sym, refl, ap, ◌∙◌, subst, inl, inr, ⊎_elim, arith}
 use borrow.Rule.Slice.PartMut.{put_mid}
-use Rattle.std.specs.List.{range_with_len, AllByRecursion as All}
+use Rattle.std.specs.List.{range_with_len, AllByRecursion}
 use Rattle.std.proofs.lemmas.List.{length-set, length-append, length-take-le, length-drop, get_or-set_same, get_or-set_other, drop-take, get_or-replicate, length-replicate}
 use Rattle.std.proofs.ByRecursion.{All-append, All-take, All-drop}
 use Rattle.std.proofs.lemmas.Slice.{between-put_mid, drop-put_mid, take-put_mid_below}
@@ -37,7 +37,7 @@ module _ (xs : List ℕ) (w n : ℕ) (long : length xs ≡ n * w) where
         (λ (gt : b < j). ap (take w) (drop-put_mid (b * w) k xs ys (j * w) (omega (arith, rows b j w gt)) a< (omega arith))))
         (cases_order j b)
 
-    pub put_all : (P : ℕ → Type 0) → All P xs → All P ys → All P (put_mid (b * w) k xs ys)
+    pub put_all : (P : ℕ → Type 0) → AllByRecursion P xs → AllByRecursion P ys → AllByRecursion P (put_mid (b * w) k xs ys)
     put_all P px py = All-append P _ _ (All-take P (b * w) xs px) (All-append P _ _ py (All-drop P k _ (All-drop P (b * w) xs px)))
 
 module _ (cur per marks : List ℕ) (w : ℕ) (s : Sound cur per marks w) where
@@ -46,7 +46,7 @@ module _ (cur per marks : List ℕ) (w : ℕ) (s : Sound cur per marks w) where
       reading_at Memory (memory cur per marks w) b n e (simp length-map-range_with_len h)
       ∙ ap (λ (c : Cell). held c.current) (get_or_table (cell_of cur per marks w) (length marks) b no_cell h)
 
-  module _ (b k v : ℕ) (ws : List ℕ) (h : b < length marks) (size : length ws ≡ w) (count : k ≡ w) (fits : All (λ x. x < 2 ^ 32) ws) (more : v ≡ min (get_or marks b 0 + 1) 2) where
+  module _ (b k v : ℕ) (ws : List ℕ) (h : b < length marks) (size : length ws ≡ w) (count : k ≡ w) (fits : AllByRecursion (λ x. x < 2 ^ 32) ws) (more : v ≡ min (get_or marks b 0 + 1) 2) where
     after_at : cell_of (put_mid (b * w) k cur ws) per (set marks b v) w b ≡ written_cell ws (cell_of cur per marks w b)
     after_at =
         let p = put_same cur w (length marks) s.cur_len b k ws h size count in
@@ -122,7 +122,7 @@ module _ (cur per marks : List ℕ) (w : ℕ) (s : Sound cur per marks w) where
         per_fit = s.cur_fit;
       }
 
-pub opened_sound : (per : List ℕ) (n w : ℕ) → Shaped (length per) (length per) n w → All (λ x. x < 2 ^ 32) per → Sound per per (replicate n 0) w
+pub opened_sound : (per : List ℕ) (n w : ℕ) → Shaped (length per) (length per) n w → AllByRecursion (λ x. x < 2 ^ 32) per → Sound per per (replicate n 0) w
 opened_sound per n w s fits =
     let e : length (replicate {A = ℕ} n 0) ≡ n = length-replicate n 0 in
     record {

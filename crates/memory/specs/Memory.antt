@@ -1,6 +1,6 @@
 -- What the device in memory means, what it keeps, and what a cut of the power may leave of it.
 use Rattle.std.specs.Prelude.{◌≡◌, ℕ, zero, suc, ◌*◌, ◌^◌, ◌<◌, ◌≤◌, ◌⊎◌, List, map, length, take, drop, replicate, slice_index}
-use Rattle.std.specs.List.{range_with_len, AllByRecursion as All}
+use Rattle.std.specs.List.{range_with_len, AllByRecursion}
 use Rattle.device.specs.Meaning.{Meaning, Cell, words, own, endless, Cut}
 use Rattle.device.specs.declared.Layer.TheVariants.{Memory}
 
@@ -26,8 +26,8 @@ pub record Sound (cur per marks : List ℕ) (w : ℕ) : Type 0 where
   pub narrow : w ≤ 64
   pub counts : (b : ℕ) → b < length marks → slice_index marks b ≤ 2
   pub clean : (b : ℕ) → b < length marks → slice_index marks b ≡ 0 → block_of w per b ≡ block_of w cur b
-  pub cur_fit : All (λ x. x < 2 ^ 32) cur
-  pub per_fit : All (λ x. x < 2 ^ 32) per
+  pub cur_fit : AllByRecursion (λ x. x < 2 ^ 32) cur
+  pub per_fit : AllByRecursion (λ x. x < 2 ^ 32) per
 
 -- the lengths of the three slices, and the width
 pub record Shaped (cur per n w : ℕ) : Type 0 where
@@ -51,7 +51,7 @@ LeavesBlock (suc (suc m)) cur per xs = Unit
 -- what a cut may leave in the persisted slice of a memory
 pub record Leaves (w : ℕ) (cur per marks left : List ℕ) : Type 0 where
   pub same_length : length left ≡ length per
-  pub fits : All (λ x. x < 2 ^ 32) left
+  pub fits : AllByRecursion (λ x. x < 2 ^ 32) left
   pub blocks : (b : ℕ) → b < length marks → LeavesBlock (slice_index marks b) (block_of w cur b) (block_of w per b) (block_of w left b)
 
 -- m is a cut of what every memory of n blocks of w words showed of which a cut may have left these persisted words

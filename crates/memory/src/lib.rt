@@ -3,7 +3,7 @@
 #![tactic(auto)]
 
 ghost use Rattle.std.specs.Prelude.{◌≡◌, ◌+◌, ◌-◌, ◌*◌, ◌^◌, ◌<◌, ◌≤◌, length, take, drop, replicate, IfOk, MatchResult};
-ghost use Rattle.std.specs.List.{AllByRecursion as All};
+ghost use Rattle.std.specs.List.{AllByRecursion};
 ghost use Rattle.device.specs.declared.Layer.{Layer};
 ghost use Rattle.memory.specs.Fit.{fit};
 ghost use Rattle.memory.specs.Memory.{memory, Sound, Shaped, cleared, Outlasts};
@@ -36,7 +36,7 @@ pub struct Slices<'a> {
 fn copy_all(to: &mut [u32], from: &[u32])
     requires { length to.old ≡ length from.now }
     ensures same { to.new ≡ from.now }
-    ensures fits { All (λ x. x < 2 ^ 32) from.now }
+    ensures fits { AllByRecursion (λ x. x < 2 ^ 32) from.now }
 {
     to.copy_from_slice(from);
 }

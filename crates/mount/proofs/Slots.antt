@@ -2,7 +2,7 @@
 use Rattle.std.proofs.Common.{◌≡◌, ℕ, zero, suc, ◌%◌, ◌<◌, ◌≤◌, Bool, true, false, cond, ◌&&◌, eqb, leb, ◌⊎◌, List, [], ◌∷◌, length, get_or, take, drop, Some, None, Option, sym, refl, ap, ◌∙◌, subst, inl, inr, ⊎_elim, arith}
 use Rattle.std.proofs.lemmas.List.{length-map, length-drop, length-take-le}
 use Rattle.std.proofs.lemmas.Bool.{and_parts, and_from, leb-true, le-leb, eqb-true, eq-eqb, ne_eqb, cases_eq, cases_lt}
-use Rattle.std.specs.List.{AllByRecursion as All}
+use Rattle.std.specs.List.{AllByRecursion}
 use Rattle.device.specs.Meaning.{Meaning, Cell, Content, Held, Lawful, LawfulCell, words, damaged, blocks_of, current_at, no_cell}
 use Rattle.page.specs.Block.{same}
 use Rattle.page.specs.Slot.{Table, every, rooted, clone_read, slot_words, slot_loose, decode_slot, slot_stands, if_stands, slot_read, SlotFits}
@@ -70,7 +70,7 @@ slot_read_lem m b x e h =
     subst (λ k. slot_in (blocks_of m) k (current_at m k) ≡ Some x) e
     (ap (slot_in (blocks_of m) (x.0 % 2)) h.content ∙ slot_back (blocks_of m) m.width x.0 x.1 h.fits)
 
-cell_at : (w : ℕ) (cs : List Cell) (b : ℕ) → All (LawfulCell w) cs → b < length cs → LawfulCell w (get_or cs b no_cell)
+cell_at : (w : ℕ) (cs : List Cell) (b : ℕ) → AllByRecursion (LawfulCell w) cs → b < length cs → LawfulCell w (get_or cs b no_cell)
 cell_at w [] b a h = absurd (omega arith)
 cell_at w (c ∷ cs) zero a h = a.0
 cell_at w (c ∷ cs) (suc b) a h = cell_at w cs b a.1 (omega arith)

@@ -7,7 +7,7 @@ ghost use Rattle.mount.specs.Due.{Usable};
 ghost use Rattle.mount.specs.Formats.{Made, Unmade};
 
 use super::is_fitting;
-use super::table::write_slot;
+use super::slot_choice::write_slot;
 use device::Device;
 use model::Refusal;
 use page::roots::Slot;

@@ -9,7 +9,7 @@ ghost use Rattle.mount.specs.Mounts.{MountExact, Accepted, Refused};
 
 mod clones;
 mod format;
-mod table;
+mod slot_choice;
 mod walk;
 
 use clones::walk_clones;
@@ -18,9 +18,9 @@ use device::Device;
 pub use format::format_device;
 use model::Refusal;
 use page::roots::Slot;
+use slot_choice::read_table;
+pub use slot_choice::write_slot;
 use std::alloc::Global;
-use table::read_table;
-pub use table::write_slot;
 
 // Mount accepts exactly the images that keep the layout.
 pub fn mount_is_exact() -> u8

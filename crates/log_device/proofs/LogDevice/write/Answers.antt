@@ -1,6 +1,6 @@
 use Rattle.std.proofs.Common.{◌≡◌, ◌+◌, ◌-◌, ◌^◌, ◌<◌, ◌≤◌, ◌∷◌, length, set, vec_items, sym, refl, ap, ◌∙◌, subst, arith}
 use borrow.Rule.Slice.PartMut.{put_mid}
-use Rattle.std.specs.List.{AllByRecursion as All}
+use Rattle.std.specs.List.{AllByRecursion}
 use Rattle.std.proofs.ByRecursion.{All-from_get_or}
 use Rattle.std.proofs.lemmas.List.FromFn.{length-map-range_with_len}
 use Rattle.device.specs.declared.Layer.TheVariants.{Log}
@@ -42,7 +42,7 @@ returns c =
     let m = log_of img n w k in
     let h : b < n = c.if-block-self.false in
     let size : length ws ≡ w = c.if-words-self.false in
-    let fits : All (λ x. x < 2 ^ 32) ws = All-from_get_or (λ x. x < 2 ^ 32) ws 0 (λ i l. omega (arith, c.type_inv.words i)) in
+    let fits : AllByRecursion (λ x. x < 2 ^ 32) ws = All-from_get_or (λ x. x < 2 ^ 32) ws 0 (λ i l. omega (arith, c.type_inv.words i)) in
     let room : k < capacity (length img) w = omega (arith, c.capacity.ensures, c.if-self-capacity.false) in
     let from = place_of w k in
     let count : from + (w + 1) - from ≡ w + 1 = omega arith in

@@ -1,5 +1,5 @@
 use Rattle.std.proofs.Common.{◌≡◌, ◌^◌, ◌<◌, length, sym, refl, ap, ◌∙◌, subst, arith}
-use Rattle.std.specs.List.{AllByRecursion as All}
+use Rattle.std.specs.List.{AllByRecursion}
 use Rattle.std.proofs.ByRecursion.{All-from_get_or}
 use Rattle.std.proofs.lemmas.List.FromFn.{length-map-range_with_len}
 use Rattle.device.specs.Meaning.{written}
@@ -26,7 +26,7 @@ returns c =
     let ws = c.copy_from_slice.new.self in
     let e : ws ≡ c.args.words.now = c.copy_from_slice.ensures.after in
     let size : length ws ≡ w = omega arith in
-    let fits : All (λ x. x < 2 ^ 32) ws = subst (All (λ x. x < 2 ^ 32)) (sym e) (All-from_get_or (λ x. x < 2 ^ 32) c.args.words.now 0 (λ i h. omega (arith, c.type_inv.words i))) in
+    let fits : AllByRecursion (λ x. x < 2 ^ 32) ws = subst (AllByRecursion (λ x. x < 2 ^ 32)) (sym e) (All-from_get_or (λ x. x < 2 ^ 32) c.args.words.now 0 (λ i h. omega (arith, c.type_inv.words i))) in
     let h : b < length marks = c.if-block-self.false in
     record {
       stays = write_sound cur per marks w c.requires b _ _ ws h size (omega arith) fits (omega arith);
