@@ -53,7 +53,7 @@ def snake(name):
 
 
 def camel(name):
-    return "".join(w[:1].upper() + w[1:] for w in name.split("-"))
+    return "".join(w[:1].upper() + w[1:] for w in re.split("[-_]", name))
 
 
 def respelled(name, first):
@@ -61,9 +61,11 @@ def respelled(name, first):
         return name
     if name in CHOSEN and (first or "-" in name):
         return CHOSEN[name]
+    if name.startswith("c."):
+        return name
     if re.match(r"[a-z]", name) and (re.search(r"[a-z0-9][A-Z]", name) or "-" in name):
         return snake(name)
-    if re.match(r"[A-Z]", name) and "-" in name:
+    if re.match(r"[A-Z]", name) and re.search("[-_]", name):
         return camel(name)
     return name
 

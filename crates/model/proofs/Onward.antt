@@ -11,7 +11,7 @@ use Rattle.model.specs.TreeBlocks.{form, elem, Change, Change.begin, Change.puts
 use Rattle.model.specs.Model.{Model, maps_of, refusal, late, used, holds, tree_of, new_tree, next, broken, cut_model}
 use Rattle.model.specs.World.{Tables, Mode, Mode.mounted, Mode.sealed, Mode.down, placed, finished_tables, Event, Event.did, Event.broke, Event.lost, model_of, shape, found, fresh, sizes, Changed, Effect, Quiet, Mounts, Step, Run, bare}
 use Rattle.model.specs.Right.{Ends}
-use Rattle.model.specs.Onward.{Turn, Goes_on, formatting, Formats}
+use Rattle.model.specs.Onward.{Turn, GoesOn, formatting, Formats}
 use Rattle.model.proofs.TreeLaws.{elem_left, elem_right, stored_same, reach_form}
 use Rattle.model.proofs.Frames.{Reaches}
 use Rattle.model.proofs.Grants.{Start, put_start, remove_start, enough, create_fit, put_fit, remove_fit, either_none, sizes_parts}
@@ -117,7 +117,7 @@ module _ (V : Type 0) (join : ℕ → Map → V) where
       end_fine es (cut_model κ (broken M c k κ)) down (cut κ (replay (take k os) m)) v d (broke_fine V join w c M m R.0.0 os R.0.1 R.0.2 k κ f R.0.3) R.1 e
   end_fine (lost κ ∷ es) M w m v d f R e = end_fine es (cut_model κ M) down (cut κ m) v d (idle_cut M κ w m f) R e
 
-pub goes_on : (V : Type 0) → Goes_on V
+pub goes_on : (V : Type 0) → GoesOn V
 goes_on V join m es w d c f R e u =
     let y = end_fine V join es (model_of bare m) (mounted bare) m w d (formatted_fine V join m f) R e in
     possible V join w c y.0 d y.1 u

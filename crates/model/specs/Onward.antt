@@ -22,8 +22,8 @@ Turn down finish = ⊥
 Turn down reopen = ⊥
 Turn down mount = Unit {0}
 
-abbrev pub Goes_on : (V : Type 0) → Type 0
-Goes_on V =
+abbrev pub GoesOn : (V : Type 0) → Type 0
+GoesOn V =
     (join : ℕ → Map → V) (m : Meaning) (es : List (Event V)) (w : Mode) (d : Meaning) (c : Call)
     → Formatted m → Run V join (mounted bare) m es → Ends (mounted bare) m es w d → Turn w c
     → (a : Answer V) × (os : List Op) × (w' : Mode) × (m' : Meaning) × Step V join w d c a os w' m'

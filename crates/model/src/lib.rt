@@ -7,7 +7,7 @@ mod refusal;
 ghost use Rattle.model.specs.Walk.{WalkExact};
 ghost use Rattle.model.specs.Right.{Histories};
 ghost use Rattle.model.specs.Reach.{UseIsReach, FreeByCounts};
-ghost use Rattle.model.specs.Onward.{Goes_on, Formats};
+ghost use Rattle.model.specs.Onward.{GoesOn, Formats};
 ghost use Rattle.model.specs.Order.{EarlyFirst, AbsentFirst};
 
 pub use refusal::Refusal;
@@ -28,7 +28,7 @@ pub fn clones_stay_apart<V>() -> u8
 
 // After every history each call in turn has a step, and a format leaves a formatted device.
 pub fn no_history_is_stuck<V>() -> u8
-    ensures { Goes_on V × Formats }
+    ensures { GoesOn V × Formats }
 {
     0
 }
