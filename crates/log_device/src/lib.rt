@@ -39,8 +39,8 @@ fn payload(word: u32) -> u32
 
 // The word of a kind with a payload.
 fn word(kind: u32, payload: u32) -> u32
-    requires kind_bound { kind < 16 }
-    requires payload_bound { payload < 2 ^ 28 }
+    requires kind_fits { kind < 16 }
+    requires payload_fits { payload < 2 ^ 28 }
     ensures { result ≡ word_of kind payload }
 {
     kind * 0x1000_0000 + payload
@@ -48,8 +48,8 @@ fn word(kind: u32, payload: u32) -> u32
 
 // How many records an image has room for.
 fn capacity(words: usize, width: usize) -> usize
-    requires le_words { 1 ≤ words }
-    requires width_bound { width ≤ 64 }
+    requires some { 1 ≤ words }
+    requires narrow { width ≤ 64 }
     ensures { result ≡ capacity words width }
 {
     ((words - 1) / (width + 1)).min(268_435_455)
@@ -91,9 +91,9 @@ fn is_record(word: u32, blocks: u32) -> bool
 
 // Are these the words of the first records?
 fn are_records(image: &[u32], blocks: u32, width: usize, count: usize) -> bool
-    requires width_in_bounds { 1 + count * (width + 1) ≤ length image.now }
-    requires count_bound { count ≤ 268435455 }
-    requires width_bound { width ≤ 64 }
+    requires within { 1 + count * (width + 1) ≤ length image.now }
+    requires few { count ≤ 268435455 }
+    requires narrow { width ≤ 64 }
     ensures { MatchBool result (AreRecords image.now blocks width count) (AreRecords image.now blocks width count → ⊥) }
 {
     for i in 0..count {
@@ -144,11 +144,11 @@ impl Index {
 
     // Enters the first records, in order.
     fn enter(&mut self, image: &[u32], width: usize, count: usize)
-        requires width_in_bounds { 1 + count * (width + 1) ≤ length image.now }
-        requires count_bound { count ≤ 268435455 }
-        requires width_bound { width ≤ 64 }
-        requires are_records { AreRecords image.now (length self.old.of.items) width count }
-        requires indexed { Indexed image.now (length self.old.of.items) width 0 self.old.of.items }
+        requires within { 1 + count * (width + 1) ≤ length image.now }
+        requires few { count ≤ 268435455 }
+        requires narrow { width ≤ 64 }
+        requires kinds { AreRecords image.now (length self.old.of.items) width count }
+        requires empty { Indexed image.now (length self.old.of.items) width 0 self.old.of.items }
         ensures { Indexed image.now (length self.old.of.items) width count self.new.of.items }
     {
         for i in 0..count {

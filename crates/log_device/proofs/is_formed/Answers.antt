@@ -15,7 +15,7 @@ are_records-requires c =
     let w = c.args.width in
     let len = length c.args.image.now in
     let h : k ≤ capacity len w = omega (arith, c.capacity.ensures, c.if-count-capacity.false) in
-    record { width_in_bounds = room_of k w len c.requires.long h; count_bound = omega (arith, h); width_bound = c.requires.narrow }
+    record { within = room_of k w len c.requires.long h; few = omega (arith, h); narrow = c.requires.narrow }
 
 pub returns-then-count-capacity : goal.returns-then-count-capacity
 returns-then-count-capacity c = record {

@@ -29,11 +29,11 @@ enter-requires c =
     let h : k ≤ capacity (length img) w = omega (arith, e, f.within) in
     let empty : vec_items c.in-Some.index.of ≡ replicate n 0 = c.in-Some.ensures in
     let long : length (vec_items c.in-Some.index.of) ≡ n = ap length empty ∙ length-replicate {A = ℕ} n 0 in record {
-      width_in_bounds = room_of k w (length img) c.if-image-lt1.false h;
-      count_bound = omega (arith, h);
-      width_bound = c.if-width-gt64.false;
-      are_records = subst (λ m. AreRecords img m w k) (sym long) (subst (AreRecords img n w) (sym e) f.kinds);
-      indexed = subst (λ m. Indexed img m w 0 (vec_items c.in-Some.index.of)) (sym long) (subst (Indexed img n w 0) (sym empty) (index_none img n w));
+      within = room_of k w (length img) c.if-image-lt1.false h;
+      few = omega (arith, h);
+      narrow = c.if-width-gt64.false;
+      kinds = subst (λ m. AreRecords img m w k) (sym long) (subst (AreRecords img n w) (sym e) f.kinds);
+      empty = subst (λ m. Indexed img m w 0 (vec_items c.in-Some.index.of)) (sym long) (subst (Indexed img n w 0) (sym empty) (index_none img n w));
     }
 
 pub returns : goal.returns
