@@ -1,5 +1,5 @@
 -- What a block device means: its blocks with their contents and marks, and the writes that are left.
-use Rattle.std.specs.Prelude.{◌≡◌, ℕ, ◌+◌, ◌-◌, ◌^◌, ◌<◌, ◌≤◌, min, cond, ◌⊎◌, List, [], map, length, get_or, Ok, Err, Result, ◌==◌, nat_lt, slice_index_or, slice_set}
+use Rattle.std.specs.Prelude.{◌≡◌, ℕ, ◌+◌, ◌-◌, ◌^◌, ◌<◌, ◌≤◌, min, cond, ◌⊎◌, List, [], map, length, Ok, Err, Result, ◌==◌, nat_lt, slice_index_or, slice_set}
 use Rattle.std.specs.List.{AllByRecursion}
 use Rattle.device.specs.declared.Layer.{Layer}
 use Rattle.device.specs.declared.LayerMark.{LayerMark}
@@ -32,7 +32,7 @@ abbrev pub no_cell : Cell
 no_cell = record { persisted = words []; current = words []; mark = 0 }
 
 abbrev pub current_at : Meaning → ℕ → Content
-current_at m b = (get_or m.cells b no_cell).current
+current_at m b = (slice_index_or m.cells b no_cell).current
 
 -- The mark of a fault: where it is found, and one layer further up.
 abbrev pub own : Layer → LayerMark

@@ -1,5 +1,5 @@
 -- What put needs of a page in memory and of its grant, and what it makes.
-use Rattle.std.specs.Prelude.{◌≡◌, ℕ, zero, suc, ◌+◌, ◌*◌, ◌<◌, ◌≤◌, List, length, slice_index, slice_index_or}
+use Rattle.std.specs.Prelude.{◌≡◌, ℕ, zero, suc, ◌+◌, ◌*◌, ◌<◌, ◌≤◌, List, length, slice_index, ◌≢◌}
 use Rattle.device.specs.Meaning.{Meaning, blocks_of}
 use Rattle.tree.specs.Node.{Seg, Every}
 use Rattle.tree.specs.Tree.{Pay, Gap, Span, Enough}
@@ -48,10 +48,10 @@ pub record Made (m : Meaning) (cs : List ℕ) (m' : Meaning) (cs' gs : List ℕ)
 
 -- the places j and j + 1 of the grant are two free blocks on the device
 pub record Open (m : Meaning) (cs gs : List ℕ) (j : ℕ) : Type 0 where
-  pub left_on : slice_index_or gs j 0 < blocks_of m
-  pub left_in : slice_index_or gs j 0 < length cs
-  pub left_free : slice_index_or cs (slice_index gs j) 0 ≡ 0
-  pub right_on : slice_index_or gs (j + 1) 0 < blocks_of m
-  pub right_in : slice_index_or gs (j + 1) 0 < length cs
-  pub right_free : slice_index_or cs (slice_index gs (j + 1)) 0 ≡ 0
-  pub apart : slice_index_or gs j 0 ≡ slice_index gs (j + 1) → ⊥
+  pub left_on : slice_index gs j < blocks_of m
+  pub left_in : slice_index gs j < length cs
+  pub left_free : slice_index cs (slice_index gs j) ≡ 0
+  pub right_on : slice_index gs (j + 1) < blocks_of m
+  pub right_in : slice_index gs (j + 1) < length cs
+  pub right_free : slice_index cs (slice_index gs (j + 1)) ≡ 0
+  pub apart : slice_index gs j ≢ slice_index gs (j + 1)
