@@ -25,15 +25,10 @@ pub fn angle_between(lower: Row, upper: Row, speed: u32) -> i32
 pub fn angle_by(before: Option<Row>, after: Option<Row>, speed: u32) -> Option<i32>
     ensures { result ≡ angle_by (option_map pair_of before) (option_map pair_of after) speed }
 {
-    let Some(lower) = before else {
-        return match after {
-            None => None,
-            Some(first) => Some(first.angle),
-        };
-    };
-    match after {
-        None => Some(lower.angle),
-        Some(upper) => Some(angle_between(lower, upper, speed)),
+    match (before, after) {
+        (None, after) => after.map(|first| first.angle),
+        (Some(lower), None) => Some(lower.angle),
+        (Some(lower), Some(upper)) => Some(angle_between(lower, upper, speed)),
     }
 }
 

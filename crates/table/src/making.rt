@@ -30,9 +30,6 @@ impl RowFault {
     pub fn number(self) -> u8
         ensures { result ≡ fault_number self }
     {
-        match self {
-            RowFault::Speed => 6,
-            RowFault::Angle => 7,
-        }
+        self as u8
     }
 }

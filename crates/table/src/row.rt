@@ -9,11 +9,11 @@ pub struct Row {
     ghost ranges: { (speed ≤ 9999) × (negsuc 8999 ≤ℤ angle) × (angle ≤ℤ pos 9000) },
 }
 
-// Why two numbers are no row.
+// Why two numbers are no row, by the refusal's number.
 #[derive(Clone, Copy, PartialEq, Eq, Debug)]
 pub enum RowFault {
     // The speed is above 9,999.
-    Speed,
+    Speed = 6,
     // The angle is beyond 9,000 either way.
-    Angle,
+    Angle = 7,
 }
