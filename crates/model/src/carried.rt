@@ -31,8 +31,7 @@ impl Refusal {
         ensures { result ≡ block_named self }
     {
         match self {
-            Refusal::Damaged { block, .. } => Some(block),
-            Refusal::Malformed { block, .. } => Some(block),
+            Refusal::Damaged { block, .. } | Refusal::Malformed { block, .. } => Some(block),
             _ => None,
         }
     }
@@ -43,8 +42,7 @@ impl Refusal {
     {
         match self {
             Refusal::Worn { clone, .. } => clone,
-            Refusal::Damaged { clone, .. } => Some(clone),
-            Refusal::Malformed { clone, .. } => Some(clone),
+            Refusal::Damaged { clone, .. } | Refusal::Malformed { clone, .. } => Some(clone),
             _ => None,
         }
     }
@@ -54,8 +52,7 @@ impl Refusal {
         ensures { result ≡ layer_named self }
     {
         match self {
-            Refusal::Worn { layer, .. } => Some(layer),
-            Refusal::Damaged { layer, .. } => Some(layer),
+            Refusal::Worn { layer, .. } | Refusal::Damaged { layer, .. } => Some(layer),
             _ => None,
         }
     }

@@ -1,7 +1,7 @@
 use device::LayerMark;
 
 // Why a call of the volume is refused. `number` in specs/Numbers.antt gives each its number.
-#[derive(Clone, Copy)]
+#[derive(Clone, Copy, PartialEq, Eq, Debug)]
 pub enum Refusal {
     // The device is too small, too large, too narrow or too wide for a volume.
     Shape,
