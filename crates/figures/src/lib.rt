@@ -4,8 +4,6 @@
 ghost use Rattle.figures.specs.Figures.{Figures};
 
 // Every figure of the list holds.
-pub fn figures_hold() -> u8
+pub fn figures_hold()
     ensures { Figures }
-{
-    0
-}
+{}
