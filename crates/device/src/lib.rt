@@ -7,6 +7,9 @@ ghost use Rattle.device.specs.Numbers.{layer_code, fault_number, fault_mark, sha
 ghost use Rattle.device.specs.Meaning.{Meaning, Lawful, own, admitted, blocks_of, reading, writing, answered, filled, after_write, flushed, raised, raised_fault, passed};
 ghost use Rattle.device.specs.Cuts.{CutsAgree};
 
+use std::fmt;
+use thiserror::Error;
+
 // What a device is made of: the layer that finds a fault signs it.
 #[derive(Clone, Copy, PartialEq, Eq, Debug)]
 pub enum Layer {
@@ -17,6 +20,13 @@ pub enum Layer {
     Quota = 5,
 }
 
+// What refusals call the layer.
+impl fmt::Display for Layer {
+    fn fmt<W: fmt::Write>(&self, f: &mut fmt::Formatter<W>) -> fmt::Result {
+        write!(f, "{}", self.code())
+    }
+}
+
 // The layer that found a fault, and how many layers lie above it, at most 255.
 #[derive(Clone, Copy, PartialEq, Eq, Debug)]
 pub struct LayerMark {
@@ -24,16 +34,22 @@ pub struct LayerMark {
     pub depth: u8,
 }
 
+impl fmt::Display for LayerMark {
+    fn fmt<W: fmt::Write>(&self, f: &mut fmt::Formatter<W>) -> fmt::Result {
+        write!(f, "layer {} depth {}", self.layer, self.depth)
+    }
+}
+
 // Why a device refuses.
-#[derive(Clone, Copy, PartialEq, Eq, Debug)]
+#[derive(Clone, Copy, PartialEq, Eq, Debug, Drop, Error)]
 pub enum DeviceFault {
-    // The buffer is not as wide as a block.
+    #[error("the buffer is not as wide as a block ({0})")]
     Length(LayerMark),
-    // There is no such block.
+    #[error("there is no such block ({0})")]
     Range(LayerMark),
-    // No write is left.
+    #[error("no write is left ({0})")]
     Worn(LayerMark),
-    // The block's content is damaged.
+    #[error("the block's content is damaged ({0})")]
     Damaged(LayerMark),
 }
 
