@@ -196,8 +196,6 @@ pub fn pass_up(answer: Result<(), DeviceFault>) -> Result<(), DeviceFault>
 }
 
 // A cut is a function of its choices: what it chooses is a cut by the rule, and every cut by the rule is so chosen.
-pub fn cuts_are_choices() -> u8
+pub fn cuts_are_choices()
     ensures { CutsAgree }
-{
-    0
-}
+{}
