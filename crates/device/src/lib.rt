@@ -4,17 +4,27 @@
 ghost use Rattle.std.specs.Prelude.{◌≡◌, ℕ, length};
 ghost use Rattle.device.specs.declared.Layer.{Layer};
 ghost use Rattle.device.specs.Numbers.{layer_code, fault_number, fault_mark, shape_number};
-ghost use Rattle.device.specs.Meaning.{Meaning, Lawful, blocks_of, reading, writing, answered, filled, after_write, flushed, raised, raised_fault, passed};
+ghost use Rattle.device.specs.Meaning.{Meaning, Lawful, own, admitted, blocks_of, reading, writing, answered, filled, after_write, flushed, raised, raised_fault, passed};
 ghost use Rattle.device.specs.Cuts.{CutsAgree};
+
+use std::fmt;
+use thiserror::Error;
 
 // What a device is made of: the layer that finds a fault signs it.
 #[derive(Clone, Copy, PartialEq, Eq, Debug)]
 pub enum Layer {
-    Memory,
-    Log,
-    Check,
-    Mirror,
-    Quota,
+    Memory = 1,
+    Log = 2,
+    Check = 3,
+    Mirror = 4,
+    Quota = 5,
+}
+
+// What refusals call the layer.
+impl fmt::Display for Layer {
+    fn fmt<W: fmt::Write>(&self, f: &mut fmt::Formatter<W>) -> fmt::Result {
+        write!(f, "{}", self.code())
+    }
 }
 
 // The layer that found a fault, and how many layers lie above it, at most 255.
@@ -24,16 +34,22 @@ pub struct LayerMark {
     pub depth: u8,
 }
 
+impl fmt::Display for LayerMark {
+    fn fmt<W: fmt::Write>(&self, f: &mut fmt::Formatter<W>) -> fmt::Result {
+        write!(f, "layer {} depth {}", self.layer, self.depth)
+    }
+}
+
 // Why a device refuses.
-#[derive(Clone, Copy, PartialEq, Eq, Debug)]
+#[derive(Clone, Copy, PartialEq, Eq, Debug, Drop, Error)]
 pub enum DeviceFault {
-    // The buffer is not as wide as a block.
+    #[error("the buffer is not as wide as a block ({0})")]
     Length(LayerMark),
-    // There is no such block.
+    #[error("there is no such block ({0})")]
     Range(LayerMark),
-    // No write is left.
+    #[error("no write is left ({0})")]
     Worn(LayerMark),
-    // The block's content is damaged.
+    #[error("the block's content is damaged ({0})")]
     Damaged(LayerMark),
 }
 
@@ -47,49 +63,37 @@ pub trait Device {
     // The layer that this device is.
     ghost code: { Layer };
 
-    // What opening or building establishes, and each call needs and keeps.
-    ghost sound: { Self → Type 0 };
-
     // What the device means.
     ghost meaning: { Self → Meaning };
 
-    // The meaning of a sound device keeps the rules of every device.
-    ghost fit: { (x : Self) → sound x → Lawful (meaning x) };
+    // It keeps the rules of every device.
+    ghost fit: { (x : Self) → Lawful (meaning x) };
 
     // The number of blocks.
     fn blocks(&self) -> u32
-        requires { sound self.now }
         ensures { result ≡ blocks_of (meaning self.now) };
 
     // The number of words in a block.
     fn width(&self) -> u32
-        requires { sound self.now }
         ensures { result ≡ (meaning self.now).width };
 
     // How many writes are left (4,294,967,295: without end), and which layer sets that limit.
     fn left(&self) -> (u32, LayerMark)
-        requires { sound self.now }
         ensures { result ≡ ((meaning self.now).left, (meaning self.now).left_mark) };
 
     // Fills the buffer with the block's current content.
     fn read(&mut self, block: u32, out: &mut [u32]) -> Result<(), DeviceFault>
-        requires { sound self.old }
-        ensures stays { sound self.new }
         ensures same { meaning self.new ≡ meaning self.old }
         ensures answer { result ≡ answered (reading code (meaning self.old) block (length out.old)) }
         ensures buffer { out.new ≡ filled (reading code (meaning self.old) block (length out.old)) out.old };
 
     // Makes the words the block's current content.
     fn write(&mut self, block: u32, words: &[u32]) -> Result<(), DeviceFault>
-        requires { sound self.old }
-        ensures stays { sound self.new }
         ensures after { meaning self.new ≡ after_write result (meaning self.old) block words.now }
         ensures answer { result ≡ writing code (meaning self.old) block (length words.now) };
 
     // Makes every current content the persisted one.
     fn flush(&mut self)
-        requires { sound self.old }
-        ensures stays { sound self.new }
         ensures after { meaning self.new ≡ flushed (meaning self.old) };
 }
 
@@ -98,13 +102,30 @@ impl Layer {
     pub fn code(self) -> u8
         ensures { result ≡ layer_code self }
     {
-        match self {
-            Layer::Memory => 1,
-            Layer::Log => 2,
-            Layer::Check => 3,
-            Layer::Mirror => 4,
-            Layer::Quota => 5,
+        self as u8
+    }
+
+    // The mark of a fault that the layer finds itself.
+    pub fn own(self) -> LayerMark
+        ensures { result ≡ own self }
+    {
+        LayerMark {
+            layer: self,
+            depth: 0,
         }
+    }
+
+    // Refuses a buffer that is not as wide as a block, and then a block that is not there.
+    pub fn admit(self, width: u32, blocks: u32, block: u32, len: usize) -> Result<(), DeviceFault>
+        ensures { result ≡ admitted self width blocks block len }
+    {
+        if len != width as usize {
+            return Err(DeviceFault::Length(self.own()));
+        }
+        if block >= blocks {
+            return Err(DeviceFault::Range(self.own()));
+        }
+        Ok(())
     }
 }
 
@@ -138,10 +159,10 @@ impl DeviceFault {
         ensures { result ≡ fault_mark self }
     {
         match self {
-            DeviceFault::Length(m) => m,
-            DeviceFault::Range(m) => m,
-            DeviceFault::Worn(m) => m,
-            DeviceFault::Damaged(m) => m,
+            DeviceFault::Length(mark)
+            | DeviceFault::Range(mark)
+            | DeviceFault::Worn(mark)
+            | DeviceFault::Damaged(mark) => mark,
         }
     }
 
@@ -171,15 +192,10 @@ impl<T> Unshaped<T> {
 pub fn pass_up(answer: Result<(), DeviceFault>) -> Result<(), DeviceFault>
     ensures { result ≡ passed answer }
 {
-    match answer {
-        Ok(()) => Ok(()),
-        Err(fault) => Err(fault.raised()),
-    }
+    answer.map_err(DeviceFault::raised)
 }
 
 // A cut is a function of its choices: what it chooses is a cut by the rule, and every cut by the rule is so chosen.
-pub fn cuts_are_choices() -> u8
+pub fn cuts_are_choices()
     ensures { CutsAgree }
-{
-    0
-}
+{}

@@ -5,6 +5,7 @@
 ghost use Rattle.std.specs.Prelude.{◌≡◌, ◌+◌, ◌-◌, ◌*◌, ◌^◌, ◌<◌, ◌≤◌, length, take, drop, replicate, IfOk, MatchResult};
 ghost use Rattle.std.specs.List.{AllByRecursion};
 ghost use Rattle.device.specs.declared.Layer.{Layer};
+ghost use Rattle.std.proofs.Props.{props};
 ghost use Rattle.memory.specs.Fit.{fit};
 ghost use Rattle.memory.specs.Memory.{memory, Sound, Shaped, cleared, Outlasts};
 
@@ -22,6 +23,7 @@ pub struct Memory<'a> {
     persisted: &'a mut [u32],
     marks: &'a mut [u8],
     width: usize,
+    ghost sound: { Sound current.now persisted.now marks.now width } by { Prim.hlevel props },
 }
 
 // What a memory is made of.
@@ -70,7 +72,6 @@ impl<'a> Memory<'a> {
     ) -> Result<Memory<'a>, Unshaped<Slices<'a>>>
         ensures opened { MatchResult result
             (λ s. Shaped (length current.old) (length persisted.old) (length marks.old) width
-            × Sound s.current.now s.persisted.now s.marks.now s.width
             × (memory s.current.now s.persisted.now s.marks.now s.width ≡ cleared persisted.old (length marks.old) width))
             (λ e. (Shaped (length current.old) (length persisted.old) (length marks.old) width → ⊥)
             × (e.given.current.now ≡ current.old) × (e.given.persisted.now ≡ persisted.old) × (e.given.marks.now ≡ marks.old)) }
@@ -131,11 +132,9 @@ impl<'a> Memory<'a> {
 impl<'a> Device for Memory<'a> {
     ghost code = { Layer.Memory };
 
-    ghost sound = { λ s. Sound s.current.now s.persisted.now s.marks.now s.width };
-
     ghost meaning = { λ s. memory s.current.now s.persisted.now s.marks.now s.width };
 
-    ghost fit = { λ s h. fit s.current.now s.persisted.now s.marks.now s.width h };
+    ghost fit = { λ s. fit s.current.now s.persisted.now s.marks.now s.width s.sound };
 
     fn blocks(&self) -> u32 {
         self.marks.len() as u32
@@ -172,9 +171,9 @@ impl<'a> Device for Memory<'a> {
         }
         let from = block * self.width;
         let to = from + self.width;
-        self.current[from..to].copy_from_slice(words);
         let mark = self.marks[block].saturating_add(1).min(2);
         self.marks[block] = mark;
+        self.current[from..to].copy_from_slice(words);
         Ok(())
     }
 
