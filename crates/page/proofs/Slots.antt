@@ -1,48 +1,57 @@
 -- The words of slots, written and read in order; decoding and reading them is exact.
-use Rattle.std.proofs.Common.{◌≡◌, ℕ, zero, suc, ◌+◌, ◌-◌, ◌*◌, ◌/◌, ◌%◌, ◌<◌, ◌≤◌, Bool, true, false, cond, ◌&&◌, eqb, ltb, leb, List, [], ◌∷◌, ◌++◌, map, length, get_or, take, drop, set, replicate, Some, None, Option, sym, refl, ap, ◌∙◌, ap₂, arith, length-append}
+use Rattle.std.proofs.Common.{◌≡◌, ℕ, zero, suc, ◌+◌, ◌-◌, ◌*◌, ◌/◌, ◌%◌, ◌<◌, ◌≤◌, Bool, true, false, cond, ◌&&◌, eqb, ltb, leb, List, [], ◌∷◌, ◌++◌, map, length, get_or, take, drop, set, replicate, Some, None, Option, sym, refl, ap, ◌∙◌, ap₂, subst, ⊎_elim, arith, length-append}
 use lib.ListN.{length-replicate}
-use Rattle.std.proofs.lemmas.List.{take_more_set, take_more, map_push, get_or-map, length-map, take_all, get_or-drop, length-drop, take-append-le, drop_more, drop_all}
-use Rattle.std.proofs.lemmas.Bool.{eq-eqb, ne_eqb, eqb-true, and_parts, and_from, leb-true, ltb-true}
-use Rattle.page.specs.Block.{word, same}
+use Rattle.std.proofs.lemmas.List.{take_more, map_push, get_or-map, get_or-take, get_or-drop, length-map, length-drop, length-take-le, take_all, take-append-le, append_assoc, set_at, ext_get_or}
+use Rattle.std.specs.Fn.{Called}
+use Rattle.std.specs.Array.{IsFromFnResultFrom}
+use denote.Param.Members.{Mut}
+use Rattle.page.specs.declared.roots.Root as places
+use Rattle.page.specs.View.{root_of}
+use Rattle.std.proofs.lemmas.Bool.{eq-eqb, ne_eqb, eqb-true, and_parts, and_from, leb-true, ltb-true, cases_eq}
+use Rattle.word.specs.Words.{word_of}
+use Rattle.page.specs.Block.{same}
 use Rattle.page.specs.Slot.{Root, Table, clone_word, clone_read, slot_words, rooted, every, slot_loose, decode_slot, slot_stands, if_stands, slot_read, CloneFits, FormFits, FormsExact, SlotFits, SlotsExact}
 use Rattle.page.proofs.Words.{same_eq, same_refl}
 
--- Writing, word by word.
-pub slot_start : (out : List ℕ) (h : ℕ) → 0 < length out → take 1 (set out 0 h) ≡ h ∷ []
-slot_start [] h l = absurd (omega arith)
-slot_start (a ∷ xs) h l = refl
+-- One clone written, over zeros.
+pub slot_step : (out : List ℕ) (w h i x : ℕ) (ps : Table) → i + 1 < w → i < length ps → x ≡ clone_word (get_or ps i None)
+    → out ≡ h ∷ (map clone_word (take i ps) ++ replicate (w - 1 - i) 0) → set out (i + 1) x ≡ h ∷ (map clone_word (take (i + 1) ps) ++ replicate (w - 1 - (i + 1)) 0)
+slot_step out w h i x ps l lt e inv =
+    let P : List ℕ = h ∷ map clone_word (take i ps) in
+    let R : List ℕ = replicate (w - 1 - (i + 1)) 0 in
+    let n : w - 1 - i ≡ suc (w - 1 - (i + 1)) = omega arith in
+    let len : length P ≡ i + 1 = omega (arith, length-map (take i ps) clone_word, length-take-le i ps (omega arith)) in
+    ap (λ xs. set xs (i + 1) x) (inv ∙ ap (λ m. P ++ replicate m 0) n)
+    ∙ set_at P 0 R x (i + 1) len
+    ∙ ap (λ y. P ++ y ∷ R) e
+    ∙ sym (ap (λ xs. h ∷ (xs ++ R)) (ap (map clone_word) (take_more ps i None lt) ∙ map_push clone_word (take i ps) (get_or ps i None))
+    ∙ append_assoc P (clone_word (get_or ps i None) ∷ []) R)
 
-pub slot_step : (out : List ℕ) (h i x : ℕ) (ps : Table) → i + 1 < length out → i < length ps → x ≡ clone_word (get_or ps i None)
-    → take (i + 1) out ≡ h ∷ map clone_word (take i ps) → take (i + 1 + 1) (set out (i + 1) x) ≡ h ∷ map clone_word (take (i + 1) ps)
-slot_step out h i x ps l lt e inv =
-    take_more_set out (i + 1) x l ∙ ap (λ xs. xs ++ x ∷ []) inv
-    ∙ ap (λ y. h ∷ (map clone_word (take i ps) ++ y ∷ [])) e
-    ∙ ap (λ xs. h ∷ xs) (sym (map_push clone_word (take i ps) (get_or ps i None)) ∙ ap (map clone_word) (sym (take_more ps i None lt)))
+-- What a function gives at each number from i on, where no call changes it.
+pub made_by : {F B : Type 0} (g : Mut F (ℕ × Unit {0}) B) (R : ℕ → B → Type 0) (f : F) (ys : List B) (n i : ℕ)
+    → ((x : ℕ) (y : B) (q : F) → Called g f (x, tt) y q → (q ≡ f) × R x y) → IsFromFnResultFrom g f ys i n → (k : ℕ) (d : B) → i ≤ k → k < i + n → R k (get_or ys k d)
+made_by g R f ys zero i h m k d l u = absurd (omega arith)
+made_by g R f ys (suc n) i h m k d l u =
+    let p = h i m.1 m.0 m.3 in
+    ⊎_elim
+    (λ e. subst (λ j. R j (get_or ys j d)) (sym e) (subst (R i) (sym (m.2.1 d)) p.1))
+    (λ ne. made_by g R f ys n (i + 1) h (subst (λ q. IsFromFnResultFrom g q ys (i + 1) n) p.0 m.4) k d (omega (arith, ne)) (omega arith)) (cases_eq k i)
 
 -- Reading, word by word.
-pub slot_read_lem : (X : Type 0) (f : X → Option Root) (items : List X) (ws : List ℕ) (i : ℕ) (e : X) → i < length items → i + 1 < length ws
-    → f e ≡ clone_read (get_or ws (i + 1) 0) → map f (take i items) ≡ map clone_read (take i (drop 1 ws)) → map f (take (i + 1) (set items i e)) ≡ map clone_read (take (i + 1) (drop 1 ws))
-slot_read_lem X f items ws i e h l fe inv =
-    let a : get_or ws (i + 1) 0 ≡ get_or (drop 1 ws) i 0 = sym (get_or-drop 1 ws i 0 ∙ ap (λ k. get_or ws k 0) (omega arith)) in
-    let lt : i < length (drop 1 ws) = omega (arith, length-drop 1 ws) in
-    ap (map f) (take_more_set items i e h) ∙ map_push f (take i items) e ∙ ap (λ xs. xs ++ f e ∷ []) inv
-    ∙ ap (λ p. map clone_read (take i (drop 1 ws)) ++ p ∷ []) (fe ∙ ap clone_read a)
-    ∙ sym (map_push clone_read (take i (drop 1 ws)) (get_or (drop 1 ws) i 0)) ∙ ap (map clone_read) (sym (take_more (drop 1 ws) i 0 lt))
+pub clones_read : (ps : List (Option places.Root)) (ws : List ℕ) → length ps ≡ 24 → 25 ≤ length ws → ((k : ℕ) (d : Option places.Root) → k < 24 → root_of (get_or ps k d) ≡ clone_read (get_or ws (k + 1) 0))
+    → map root_of ps ≡ map clone_read (take 24 (drop 1 ws))
+clones_read ps ws n l h =
+    let m : length (take 24 (drop 1 ws)) ≡ 24 = length-take-le 24 (drop 1 ws) (omega (arith, length-drop 1 ws)) in
+    ext_get_or None (map root_of ps) (map clone_read (take 24 (drop 1 ws))) (omega (arith, length-map ps root_of, length-map (take 24 (drop 1 ws)) clone_read, m))
+    (λ k p.
+    let lt : k < 24 = omega (arith, length-map ps root_of) in
+    get_or-map root_of ps k None None (omega arith) ∙ h k None lt
+    ∙ sym (get_or-map clone_read (take 24 (drop 1 ws)) k 0 None (omega (arith, m))
+    ∙ ap clone_read (get_or-take 24 (drop 1 ws) k 0 lt ∙ get_or-drop 1 ws k 0 ∙ ap (λ i. get_or ws i 0) (omega arith))))
 
 pub decode_by : (ws : List ℕ) (x : ℕ × Table) (b : Bool) → x ≡ slot_loose ws → b ≡ same ws (slot_words (length ws) x.0 x.1) → cond b (Some x) None ≡ decode_slot ws
 decode_by ws x b e k =
     ap (λ d. cond d (Some x) None) k ∙ ap (λ (y : ℕ × Table). cond (same ws (slot_words (length ws) y.0 y.1)) (Some y) None) e
-
--- Testing a list, element by element.
-pub every_step : {X A : Type 0} (f : A → Bool) (g : X → A) (xs : List X) (i : ℕ) (x : X) (b : Bool) → i < length xs → b ≡ f (g (get_or xs i x))
-    → every f (drop i (map g xs)) ≡ (b && every f (drop (i + 1) (map g xs)))
-every_step f g xs i x b h e =
-    ap (every f) (drop_more (map g xs) i (g x) (omega (arith, length-map xs g)))
-    ∙ ap (λ y. f y && every f (drop (i + 1) (map g xs))) (get_or-map g xs i x (g x) h)
-    ∙ ap (λ k. k && every f (drop (i + 1) (map g xs))) (sym e)
-
-pub every_end : {A : Type 0} (f : A → Bool) (xs : List A) (i : ℕ) → length xs ≤ i → every f (drop i xs) ≡ true
-every_end f xs i h = ap (every f) (drop_all i xs h)
 
 pub every_at : {A : Type 0} (f : A → Bool) (xs : List A) (i : ℕ) (d : A) → every f xs ≡ true → i < length xs → f (get_or xs i d) ≡ true
 every_at f [] i d h l = absurd (omega arith)
@@ -53,11 +62,11 @@ every_at f (x ∷ xs) (suc i) d h l = every_at f xs i d (and_parts (f x) (every 
 clone_back : (o : Option Root) → CloneFits o → clone_read (clone_word o) ≡ o
 clone_back None h = refl
 clone_back (Some r) h =
-    let x : ℕ = word 7 (r.0 * 65536 + r.1) in
+    let x : ℕ = word_of 7 (r.0 * 65536 + r.1) in
+    let e : clone_read x ≡ Some (x % 268435456 / 65536, x % 65536) = ap (λ t. cond t None (Some (x % 268435456 / 65536, x % 65536))) (ne_eqb x 0 (λ e. absurd (omega arith))) in
     let a : x % 268435456 / 65536 ≡ r.0 = omega arith in
     let b : x % 65536 ≡ r.1 = omega arith in
-    ap (λ t. cond t None (Some (x % 268435456 / 65536, x % 65536))) (ne_eqb x 0 (λ e. absurd (omega arith)))
-    ∙ ap₂ {C = Option Root} (λ (i j : ℕ). Some (i, j)) a b
+    e ∙ ap₂ {C = Option Root} (λ (i j : ℕ). Some (i, j)) a b
 
 table_back : (t : Table) → ((i : ℕ) → i < length t → CloneFits (get_or t i None)) → map clone_read (map clone_word t) ≡ t
 table_back [] h = refl
@@ -69,7 +78,7 @@ front n xs ys e = take-append-le n xs ys (omega arith) ∙ take_all n xs (omega 
 loose_back : (w g : ℕ) (t : Table) → FormFits w g t → slot_loose (slot_words w g t) ≡ (g, t)
 loose_back w g t y =
     let R : List ℕ = replicate (w - 25) 0 in
-    let a : word 6 g % 268435456 ≡ g = omega (arith, y.generation) in
+    let a : word_of 6 g % 268435456 ≡ g = omega (arith, y.generation) in
     let b : map clone_read (take 24 (map clone_word t ++ R)) ≡ t
     = ap (map clone_read) (front 24 (map clone_word t) R (length-map t clone_word ∙ y.places)) ∙ table_back t (λ i l. y.clones i (omega (arith, y.places))) in
     ap₂ (λ (i : ℕ) (j : Table). (i, j)) a b

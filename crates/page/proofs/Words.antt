@@ -1,64 +1,44 @@
 -- Words of tree blocks, written and read in order.
-use Rattle.std.proofs.Common.{◌≡◌, ℕ, zero, suc, ◌+◌, ◌-◌, ◌*◌, ◌/◌, ◌%◌, ◌<◌, ◌≤◌, Bool, true, false, cond, ◌&&◌, eqb, ltb, leb, ◌⊎◌, List, [], ◌∷◌, ◌++◌, map, length, get_or, take, drop, set, replicate, Some, None, sym, refl, ap, ◌∙◌, ⊎_elim, add-one, arith, length-set}
-use Rattle.std.proofs.lemmas.List.{take_more_set, take_more, append_assoc, map_push, replicate_more, get_or-drop, drop_more, drop_all}
-use Rattle.std.proofs.lemmas.Bool.{eq-eqb, eqb-true, and_parts, false≢true, and_left, and_right, and_from, lt-leb, le-ltb, le-leb, lt-ltb}
-use Rattle.page.specs.Block.{Block, word, flat, pairs, encode, read, same, decode}
+use Rattle.std.proofs.Common.{◌≡◌, ℕ, zero, suc, ◌+◌, ◌-◌, ◌*◌, ◌/◌, ◌%◌, ◌<◌, ◌≤◌, Bool, true, false, cond, ◌&&◌, ltb, leb, ◌⊎◌, List, [], ◌∷◌, ◌++◌, map, length, get_or, take, drop, set, replicate, Some, None, sym, refl, ap, ◌∙◌, ap₂, ⊎_elim, add-one, arith, length-append}
+use Rattle.std.proofs.lemmas.List.{take_more, map_push, append_assoc, set_at, drop_at, drop-drop, get_or-drop, get_or-take, get_or_append_left, length-take-le}
+use Rattle.std.proofs.lemmas.Slice.Eq.{bytes_eq-Decides}
+use Rattle.std.proofs.lemmas.Bool.{and_left, and_right, and_from, lt-leb, le-ltb, le-leb, lt-ltb}
+use Rattle.std.specs.Option.{option_map}
+use Rattle.word.specs.Words.{payload_of, word_of}
+use Rattle.page.specs.Block.{Block, flat, pairs, encode, read, same, decode}
 
-pub enc_start : (out : List ℕ) (h : ℕ) → 1 < length out → take 2 (set (set out 0 h) 1 0) ≡ h ∷ 0 ∷ []
-enc_start [] h l = absurd (omega arith)
-enc_start (a ∷ []) h l = absurd (omega arith)
-enc_start (a ∷ b ∷ xs) h l = refl
-
-pub flat_push : (k : ℕ) (es : List (ℕ × ℕ)) (e : ℕ × ℕ) → flat k (es ++ e ∷ []) ≡ flat k es ++ word 3 e.0 ∷ word k e.1 ∷ []
+pub flat_push : (k : ℕ) (es : List (ℕ × ℕ)) (e : ℕ × ℕ) → flat k (es ++ e ∷ []) ≡ flat k es ++ word_of 3 e.0 ∷ word_of k e.1 ∷ []
 flat_push k [] e = refl
-flat_push k (x ∷ es) e = ap (λ r. word 3 x.0 ∷ word k x.1 ∷ r) (flat_push k es e)
+flat_push k (x ∷ es) e = ap (λ r. word_of 3 x.0 ∷ word_of k x.1 ∷ r) (flat_push k es e)
 
 pub flat_length : (k : ℕ) (es : List (ℕ × ℕ)) → length (flat k es) ≡ 2 * length es
 flat_length k [] = refl
 flat_length k (e ∷ es) = omega (arith, flat_length k es)
 
-two : (out : List ℕ) (i a b : ℕ) → 2 * i + 3 < length out → take (2 * (i + 1) + 2) (set (set out (2 * i + 2) a) (2 * i + 3) b) ≡ take (2 * i + 2) out ++ a ∷ b ∷ []
-two out i a b h =
-    let e1 : 2 * (i + 1) + 2 ≡ 2 * i + 3 + 1 = omega arith in
-    let e2 : 2 * i + 3 ≡ 2 * i + 2 + 1 = omega arith in
-    ap (λ n. take n (set (set out (2 * i + 2) a) (2 * i + 3) b)) e1
-    ∙ take_more_set (set out (2 * i + 2) a) (2 * i + 3) b (omega (arith, length-set out (2 * i + 2) a))
-    ∙ ap (λ n. take n (set out (2 * i + 2) a) ++ b ∷ []) e2
-    ∙ ap (λ xs. xs ++ b ∷ []) (take_more_set out (2 * i + 2) a (omega arith))
-    ∙ append_assoc (take (2 * i + 2) out) (a ∷ []) (b ∷ [])
-
-pub enc_step : (out : List ℕ) (k h i : ℕ) (es : List (ℕ × ℕ)) (s v b : ℕ) → 2 * i + 3 < length out → i < length es → get_or es i (0, 0) ≡ (s, v) → b ≡ word k v
-    → take (2 * i + 2) out ≡ h ∷ 0 ∷ flat k (take i es)
-    → take (2 * (i + 1) + 2) (set (set out (2 * i + 2) (word 3 s)) (2 * i + 3) b) ≡ h ∷ 0 ∷ flat k (take (i + 1) es)
-enc_step out k h i es s v b l lt e eb inv =
-    two out i (word 3 s) b l
-    ∙ ap (λ xs. xs ++ word 3 s ∷ b ∷ []) inv
-    ∙ ap (λ y. h ∷ 0 ∷ (flat k (take i es) ++ word 3 s ∷ y ∷ [])) eb
-    ∙ ap (λ r. h ∷ 0 ∷ r) (sym (ap (flat k) (take_more es i (0, 0) lt ∙ ap (λ p. take i es ++ p ∷ []) e) ∙ flat_push k (take i es) (s, v)))
-
-pub zero_step : (out xs : List ℕ) (j n : ℕ) → n ≤ j → j < length out → take j out ≡ xs ++ replicate (j - n) 0 → take (j + 1) (set out j 0) ≡ xs ++ replicate (j + 1 - n) 0
-zero_step out xs j n h l inv =
-    let e : j - n + 1 ≡ j + 1 - n = omega arith in
-    take_more_set out j 0 l ∙ ap (λ ys. ys ++ 0 ∷ []) inv ∙ append_assoc xs (replicate (j - n) 0) (0 ∷ [])
-    ∙ ap (λ ys. xs ++ ys) (replicate_more (j - n) 0) ∙ ap (λ m. xs ++ replicate m 0) e
-
-pub same_step : (xs ys : List ℕ) (i : ℕ) → i < length xs → i < length ys → same (drop i xs) (drop i ys) ≡ (eqb (get_or xs i 0) (get_or ys i 0) && same (drop (i + 1) xs) (drop (i + 1) ys))
-same_step xs ys i h l = ap (λ zs. same zs (drop i ys)) (drop_more xs i 0 h) ∙ ap (λ zs. same (get_or xs i 0 ∷ drop (i + 1) xs) zs) (drop_more ys i 0 l)
-
-pub same_end : (xs ys : List ℕ) (i : ℕ) → length xs ≤ i → length ys ≤ i → same (drop i xs) (drop i ys) ≡ true
-same_end xs ys i h l = ap (λ zs. same zs (drop i ys)) (drop_all i xs h) ∙ ap (λ zs. same [] zs) (drop_all i ys l)
+-- One entry written, over zeros.
+pub enc_step : (out : List ℕ) (w k h i : ℕ) (es : List (ℕ × ℕ)) (s v b : ℕ) → 2 * i + 3 < w → i < length es → get_or es i (0, 0) ≡ (s, v) → b ≡ word_of k v
+    → out ≡ h ∷ 0 ∷ (flat k (take i es) ++ replicate (w - 2 - 2 * i) 0)
+    → set (set out (2 * i + 2) (word_of 3 s)) (2 * i + 3) b ≡ h ∷ 0 ∷ (flat k (take (i + 1) es) ++ replicate (w - 2 - 2 * (i + 1)) 0)
+enc_step out w k h i es s v b l lt e eb inv =
+    let P : List ℕ = h ∷ 0 ∷ flat k (take i es) in
+    let R : List ℕ = replicate (w - 2 - 2 * (i + 1)) 0 in
+    let n : w - 2 - 2 * i ≡ suc (suc (w - 2 - 2 * (i + 1))) = omega arith in
+    let z : P ++ replicate (w - 2 - 2 * i) 0 ≡ P ++ 0 ∷ 0 ∷ R = ap (λ m. P ++ replicate m 0) n in
+    let len : length P ≡ 2 * i + 2 = omega (arith, flat_length k (take i es), length-take-le i es (omega arith)) in
+    let last : length (P ++ word_of 3 s ∷ []) ≡ 2 * i + 3 = omega (arith, length-append P (word_of 3 s ∷ []), len) in
+    ap (λ xs. set (set xs (2 * i + 2) (word_of 3 s)) (2 * i + 3) b) (inv ∙ z)
+    ∙ ap (λ xs. set xs (2 * i + 3) b) (set_at P 0 (0 ∷ R) (word_of 3 s) (2 * i + 2) len ∙ sym (append_assoc P (word_of 3 s ∷ []) (0 ∷ R)))
+    ∙ set_at (P ++ word_of 3 s ∷ []) 0 R b (2 * i + 3) last
+    ∙ append_assoc P (word_of 3 s ∷ []) (b ∷ R)
+    ∙ ap (λ x. P ++ word_of 3 s ∷ x ∷ R) eb
+    ∙ sym (ap (λ xs. h ∷ 0 ∷ (xs ++ R)) (ap (flat k) (take_more es i (0, 0) lt ∙ ap (λ p. take i es ++ p ∷ []) e) ∙ flat_push k (take i es) (s, v))
+    ∙ append_assoc P (word_of 3 s ∷ word_of k v ∷ []) R)
 
 pub same_refl : (xs : List ℕ) → same xs xs ≡ true
-same_refl [] = refl
-same_refl (x ∷ xs) = ap (λ b. b && same xs xs) (eq-eqb x x refl) ∙ same_refl xs
+same_refl xs = (bytes_eq-Decides xs xs).1 refl
 
 pub same_eq : (xs ys : List ℕ) → same xs ys ≡ true → xs ≡ ys
-same_eq [] [] h = refl
-same_eq [] (y ∷ ys) h = absurd (false≢true h)
-same_eq (x ∷ xs) [] h = absurd (false≢true h)
-same_eq (x ∷ xs) (y ∷ ys) h =
-    let p = and_parts (eqb x y) (same xs ys) h in
-    ap (λ z. z ∷ xs) (eqb-true x y p.0) ∙ ap (λ zs. y ∷ zs) (same_eq xs ys p.1)
+same_eq xs ys h = (bytes_eq-Decides xs ys).0 h
 
 pub pairs_length : (n : ℕ) (ws : List ℕ) → length (pairs n ws) ≡ n
 pairs_length zero ws = refl
@@ -74,18 +54,21 @@ pairs_push (suc n) ws =
     ∙ ap (λ x. pairs n (drop 2 ws) ++ (x % 268435456, get_or (drop 2 ws) (2 * n + 1) 0 % 268435456) ∷ []) a
     ∙ ap (λ x. pairs n (drop 2 ws) ++ (get_or ws (2 * suc n) 0 % 268435456, x % 268435456) ∷ []) b)
 
-pub dec_step : (X : Type 0) (f : X → ℕ × ℕ) (items : List X) (ws : List ℕ) (i : ℕ) (e : X) → i < length items
-    → f e ≡ (get_or ws (2 * i + 2) 0 % 268435456, get_or ws (2 * i + 3) 0 % 268435456)
-    → map f (take i items) ≡ pairs i (drop 2 ws) → map f (take (i + 1) (set items i e)) ≡ pairs (i + 1) (drop 2 ws)
-dec_step X f items ws i e h fe inv =
-    let a : get_or (drop 2 ws) (2 * i) 0 ≡ get_or ws (2 * i + 2) 0 = get_or-drop 2 ws (2 * i) 0 ∙ ap (λ k. get_or ws k 0) (omega arith) in
-    let b : get_or (drop 2 ws) (2 * i + 1) 0 ≡ get_or ws (2 * i + 3) 0 = get_or-drop 2 ws (2 * i + 1) 0 ∙ ap (λ k. get_or ws k 0) (omega arith) in
-    ap (map f) (take_more_set items i e h) ∙ map_push f (take i items) e ∙ ap (λ xs. xs ++ f e ∷ []) inv
-    ∙ ap (λ p. pairs i (drop 2 ws) ++ p ∷ []) fe
-    ∙ ap (λ x. pairs i (drop 2 ws) ++ (x % 268435456, get_or ws (2 * i + 3) 0 % 268435456) ∷ []) (sym a)
-    ∙ ap (λ x. pairs i (drop 2 ws) ++ (get_or (drop 2 ws) (2 * i) 0 % 268435456, x % 268435456) ∷ []) (sym b)
-    ∙ sym (pairs_push i (drop 2 ws))
-    ∙ ap (λ n. pairs n (drop 2 ws)) (sym (add-one i))
+-- One entry read, from the front of the pairs that are left.
+pub dec_step : {X : Type 0} (f : X → ℕ × ℕ) (items new : List X) (e : X) (ws pair rest more : List ℕ) (n i : ℕ) → length items ≡ i → i < n → 2 * n + 2 ≤ length ws
+    → rest ≡ drop (2 * i) (take (2 * n) (drop 2 ws)) → rest ≡ pair ++ more → length pair ≡ 2 → f e ≡ (payload_of (get_or pair 0 0), payload_of (get_or pair 1 0)) → new ≡ items ++ e ∷ []
+    → map f items ≡ pairs i (drop 2 ws) → map f new ≡ pairs (i + 1) (drop 2 ws)
+dec_step f items new e ws pair rest more n i k h l left front two fe ne inv =
+    let at : (k j : ℕ) → k < 2 → 2 * i + k ≡ j → get_or pair k 0 ≡ get_or (drop 2 ws) j 0
+    = λ k j q p. sym (get_or_append_left pair more 0 k (omega arith)) ∙ ap (λ xs. get_or xs k 0) (sym front ∙ left) ∙ get_or-drop (2 * i) (take (2 * n) (drop 2 ws)) k 0
+    ∙ ap (λ m. get_or (take (2 * n) (drop 2 ws)) m 0) p ∙ get_or-take (2 * n) (drop 2 ws) j 0 (omega arith) in
+    ap (map f) ne ∙ map_push f items e ∙ ap₂ (λ (xs : List (ℕ × ℕ)) (p : ℕ × ℕ). xs ++ p ∷ []) inv fe
+    ∙ ap₂ (λ (x y : ℕ). pairs i (drop 2 ws) ++ (payload_of x, payload_of y) ∷ []) (at 0 (2 * i) (omega arith) (omega arith)) (at 1 (2 * i + 1) (omega arith) refl)
+    ∙ sym (pairs_push i (drop 2 ws)) ∙ ap (λ m. pairs m (drop 2 ws)) (sym (add-one i))
+
+pub left_step : (xs pair more : List ℕ) (i : ℕ) → drop (2 * i) xs ≡ pair ++ more → length pair ≡ 2 → more ≡ drop (2 * (i + 1)) xs
+left_step xs pair more i e two =
+    sym (drop_at pair more 2 two) ∙ ap (drop 2) (sym e) ∙ drop-drop 2 (2 * i) xs ∙ ap (λ n. drop n xs) (omega arith)
 
 fits_no : (n l : ℕ) (ws : List ℕ) → (15 < n) ⊎ (4 < l) → (leb (length (pairs n ws)) 15 && ltb l 5) ≡ false
 fits_no n l ws h = ⊎_elim
@@ -105,3 +88,8 @@ decode_by ws n b h l e t =
     ap (λ d. cond d (Some n) None) t
     ∙ ap (λ m. cond (same ws (encode (length ws) m)) (Some m) None) e
     ∙ ap (λ d. cond (d && same ws (encode (length ws) (read ws))) (Some (read ws)) None) (sym (fits_yes (get_or ws 0 0 % 256) (get_or ws 0 0 % 268435456 / 256) (drop 2 ws) h l))
+
+-- what is held, as what f makes of it
+pub held_by : {T A : Type 0} (f : T → A) (x : T) (b : Bool) → option_map f (cond b (Some x) None) ≡ cond b (Some (f x)) None
+held_by f x true = refl
+held_by f x false = refl

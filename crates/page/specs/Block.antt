@@ -1,8 +1,10 @@
 -- What a tree block holds, and the words that hold it.
--- A word has 32 bits: the top 4 are its kind, the low 28 its payload. A tree block's words are, in this order:
+-- A tree block's words are, in this order:
 -- a header (kind 1 for a leaf: how many entries; kind 2 for an index block: level * 256 + how many entries); 0;
 -- two words for each entry, a speed (kind 3) and then an angle (kind 4) or a child (kind 5); and 0 up to the width.
-use Rattle.std.specs.Prelude.{◌≡◌, ℕ, zero, suc, ◌+◌, ◌-◌, ◌*◌, ◌/◌, ◌%◌, ◌<◌, ◌≤◌, Bool, true, false, cond, ◌&&◌, List, [], ◌∷◌, ◌++◌, map, length, drop, replicate, Some, None, Option, ◌==◌, nat_le, nat_lt, slice_index, slice_index_or}
+use Rattle.std.specs.Prelude.{◌≡◌, ℕ, zero, suc, ◌+◌, ◌-◌, ◌*◌, ◌/◌, ◌%◌, ◌<◌, ◌≤◌, Bool, cond, ◌&&◌, List, [], ◌∷◌, ◌++◌, map, length, drop, replicate, Some, None, Option, ◌==◌, nat_le, nat_lt, slice_index, slice_index_or}
+use Rattle.std.specs.Str.{bytes_eq}
+use Rattle.word.specs.Words.{payload_of, word_of}
 use Rattle.device.specs.Meaning.{Meaning, Content, words, damaged, current_at}
 
 -- A leaf has level 0. An entry is a speed or separator, and a payload: the angle + 9,000 in a leaf, a child's block in an index block.
@@ -10,13 +12,9 @@ pub record Block : Type 0 where
   pub level : ℕ
   pub entries : List (ℕ × ℕ)
 
--- the word of a kind with a payload
-abbrev pub word : ℕ → ℕ → ℕ
-word kind payload = kind * 268435456 + payload
-
 -- the header of a block of this level with so many entries
 abbrev pub header_of : ℕ → ℕ → ℕ
-header_of level len = cond (level == 0) (word 1 len) (word 2 (level * 256 + len))
+header_of level len = cond (level == 0) (word_of 1 len) (word_of 2 (level * 256 + len))
 
 -- the kind of an entry's second word, at this level
 abbrev pub value_kind : ℕ → ℕ
@@ -25,7 +23,7 @@ value_kind level = cond (level == 0) 4 5
 -- the words of entries, whose second words have this kind
 abbrev pub flat : ℕ → List (ℕ × ℕ) → List ℕ
 flat kind [] = []
-flat kind (e ∷ es) = word 3 e.0 ∷ word kind e.1 ∷ flat kind es
+flat kind (e ∷ es) = word_of 3 e.0 ∷ word_of kind e.1 ∷ flat kind es
 
 -- the words of a block, w of them
 abbrev pub encode : ℕ → Block → List ℕ
@@ -34,18 +32,15 @@ encode w n = header_of n.level (length n.entries) ∷ 0 ∷ (flat (value_kind n.
 -- the payloads of n pairs of words
 abbrev pub pairs : ℕ → List ℕ → List (ℕ × ℕ)
 pairs zero ws = []
-pairs (suc n) ws = (slice_index ws 0 % 268435456, slice_index ws 1 % 268435456) ∷ pairs n (drop 2 ws)
+pairs (suc n) ws = (payload_of (slice_index ws 0), payload_of (slice_index ws 1)) ∷ pairs n (drop 2 ws)
 
 -- the block that words would hold, if they hold one: kinds and zeros are not looked at
 abbrev pub read : List ℕ → Block
-read ws = record { level = (slice_index ws 0 % 268435456) / 256; entries = pairs (slice_index ws 0 % 256) (drop 2 ws) }
+read ws = record { level = payload_of (slice_index ws 0) / 256; entries = pairs (slice_index ws 0 % 256) (drop 2 ws) }
 
 -- whether two lists of words are the same
 abbrev pub same : List ℕ → List ℕ → Bool
-same [] [] = true
-same [] (y ∷ ys) = false
-same (x ∷ xs) [] = false
-same (x ∷ xs) (y ∷ ys) = x == y && same xs ys
+same = bytes_eq
 
 -- at most 15 entries, and a level below 5
 abbrev pub fits : Block → Bool

@@ -1,3 +1,4 @@
 pub mod Block
+pub mod Io
 pub mod Slot
 pub mod View

@@ -2,8 +2,10 @@
 -- A slot's words are: a header (kind 6, the generation); 24 words, each 0 for a clone that is not there
 -- or kind 7 with height * 65,536 + the root's block; and 0 up to the width.
 -- Two slots stand in blocks 0 and 1; a slot's generation is even in block 0 and odd in block 1.
-use Rattle.std.specs.Prelude.{◌≡◌, ℕ, ◌+◌, ◌-◌, ◌*◌, ◌/◌, ◌%◌, ◌<◌, ◌≤◌, Bool, true, cond, ◌&&◌, List, [], ◌∷◌, ◌++◌, map, length, take, drop, replicate, Some, None, Option, ◌==◌, nat_le, nat_lt, slice_index, slice_index_or}
-use Rattle.page.specs.Block.{word, same}
+use Rattle.std.specs.Prelude.{◌≡◌, ℕ, ◌+◌, ◌-◌, ◌*◌, ◌/◌, ◌%◌, ◌<◌, ◌≤◌, Bool, true, cond, ◌&&◌, List, ◌∷◌, ◌++◌, map, length, take, drop, replicate, Some, None, Option, ◌==◌, nat_le, nat_lt, slice_index, slice_index_or}
+use Rattle.std.specs.List.{list_all}
+use Rattle.word.specs.Words.{payload_of, word_of}
+use Rattle.page.specs.Block.{same}
 
 -- the height of a tree, and its root's block
 abbrev pub Root : Type 0
@@ -16,15 +18,15 @@ Table = List (Option Root)
 -- the word of a clone
 abbrev pub clone_word : Option Root → ℕ
 clone_word None = 0
-clone_word (Some r) = word 7 (r.0 * 65536 + r.1)
+clone_word (Some r) = word_of 7 (r.0 * 65536 + r.1)
 
 -- the clone that a word would hold, if it holds one: its kind is not looked at
 abbrev pub clone_read : ℕ → Option Root
-clone_read x = cond (x == 0) None (Some (x % 268435456 / 65536, x % 65536))
+clone_read x = cond (x == 0) None (Some (payload_of x / 65536, x % 65536))
 
 -- the words of generation g with table t, at width w
 abbrev pub slot_words : ℕ → ℕ → Table → List ℕ
-slot_words w g t = word 6 g ∷ (map clone_word t ++ replicate (w - 25) 0)
+slot_words w g t = word_of 6 g ∷ (map clone_word t ++ replicate (w - 25) 0)
 
 -- over n blocks: a height from 1 to 5, a root from 2 to n - 1
 abbrev pub rooted : ℕ → Option Root → Bool
@@ -32,12 +34,11 @@ rooted n None = true
 rooted n (Some r) = (nat_le 1 r.0 && nat_le r.0 5) && (nat_le 2 r.1 && nat_lt r.1 n)
 
 abbrev pub every : {A : Type 0} → (A → Bool) → List A → Bool
-every f [] = true
-every f (x ∷ xs) = f x && every f xs
+every = list_all
 
 -- the generation and table that words would hold, if they hold a slot
 abbrev pub slot_loose : List ℕ → ℕ × Table
-slot_loose ws = (slice_index ws 0 % 268435456, map clone_read (take 24 (drop 1 ws)))
+slot_loose ws = (payload_of (slice_index ws 0), map clone_read (take 24 (drop 1 ws)))
 
 -- the form of a slot: what the words read as, if that has just these words
 abbrev pub decode_slot : List ℕ → Option (ℕ × Table)

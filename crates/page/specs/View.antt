@@ -1,5 +1,5 @@
 -- What pages and slots in memory stand for.
-use Rattle.std.specs.Prelude.{ℕ, List, map, take, Some, None, Option}
+use Rattle.std.specs.Prelude.{ℕ, List, map, Some, None, Option}
 use Rattle.page.specs.Block.{Block}
 use Rattle.page.specs.Slot.{Table}
 use Rattle.page.specs.Slot as slots
@@ -14,7 +14,7 @@ pair e = (e.speed, e.value)
 
 -- the entries of a page
 abbrev pub entries : Page → List (ℕ × ℕ)
-entries p = map pair (take p.len p.items)
+entries p = map pair p.entries.items
 
 -- the tree block that a page stands for
 abbrev pub view : Page → Block

@@ -1,11 +1,12 @@
 // The words of pages.
 ghost use Rattle.std.specs.Prelude.{◌≡◌, ℕ, ◌+◌, ◌-◌, ◌*◌, ◌<◌, ◌≤◌, length};
-ghost use Rattle.std.specs.Option.{option_map};
-ghost use Rattle.page.specs.Block.{decode, encode, word, header_of, value_kind, same};
-ghost use Rattle.page.specs.View.{view};
+ghost use Rattle.word.specs.Words.{word_of};
+ghost use Rattle.page.specs.Block.{header_of, value_kind};
 
 use super::page::{Entry, Page};
-use super::slices::same_words;
+use super::stored::Stored;
+use arrayvec::ArrayVec;
+use word::{Kind, payload};
 
 // The first word of a page.
 fn header_word(level: u32, len: u32) -> u32
@@ -13,77 +14,59 @@ fn header_word(level: u32, len: u32) -> u32
     ensures { result ≡ header_of level len }
 {
     if level == 0 {
-        0x1000_0000 + len
+        Kind::Leaf.word(len)
     } else {
-        0x2000_0000 + (level * 256 + len)
+        Kind::Index.word(level * 256 + len)
     }
 }
 
 // The second word of an entry.
 fn value_word(level: u32, value: u32) -> u32
     requires { value < 268435456 }
-    ensures { result ≡ word (value_kind level) value }
+    ensures { result ≡ word_of (value_kind level) value }
 {
     if level == 0 {
-        0x4000_0000 + value
+        Kind::Angle.word(value)
     } else {
-        0x5000_0000 + value
+        Kind::Child.word(value)
     }
 }
 
-// Writes the words of a page.
-pub fn encode_page(page: &Page, out: &mut [u32])
-    requires wide { 32 ≤ length out.old }
-    requires low { page.now.level < 5 }
-    ensures { out.new ≡ encode (length out.old) (view page.now) }
-{
-    let len = page.len;
-    let level = page.level;
-    out[0] = header_word(level, len as u32);
-    out[1] = 0;
-    for i in 0..len {
-        let e = page.items[i];
-        out[2 * i + 2] = 0x3000_0000 + e.speed;
-        out[2 * i + 3] = value_word(level, e.value);
-    }
-    for j in 2 * len + 2..out.len() {
-        out[j] = 0;
-    }
-}
+impl Stored for Page {
+    ghost use Rattle.std.specs.Prelude.{◌≡◌, ◌<◌};
+    ghost use Rattle.std.specs.Option.{option_map};
+    ghost use Rattle.page.specs.Block.{decode, encode};
+    ghost use Rattle.page.specs.View.{view};
 
-// Whether the words are those of the page, which are written into `again`.
-fn is_page(page: &Page, words: &[u32], again: &mut [u32]) -> bool
-    requires wide { 32 ≤ length words.now }
-    requires fits { length again.old ≡ length words.now }
-    requires low { page.now.level < 5 }
-    ensures { result ≡ same words.now (encode (length words.now) (view page.now)) }
-{
-    encode_page(page, again);
-    same_words(words, again)
-}
+    ghost words_of = { λ w p. encode w (view p) };
 
-// The page that the words hold, if they are the words of one.
-pub fn decode_page(words: &[u32]) -> Option<Page>
-    requires wide { (32 ≤ length words.now) × (length words.now ≤ 40) }
-    ensures { option_map view result ≡ decode words.now }
-{
-    let len = (words[0] % 256) as usize;
-    let level = words[0] % 268435456 / 256;
-    if len > 15 || level > 4 {
-        return None;
+    ghost storable = { λ p. p.level < 5 };
+
+    ghost holds = { λ ws p. option_map view p ≡ decode ws };
+
+    fn encode(&self, out: &mut [u32]) {
+        let entries = self.entries.as_slice();
+        out.fill(0);
+        out[0] = header_word(self.level, entries.len() as u32);
+        for (i, entry) in entries.iter().enumerate() {
+            out[2 * i + 2] = Kind::Speed.word(entry.speed);
+            out[2 * i + 3] = value_word(self.level, entry.value);
+        }
     }
-    let mut items = [Entry { speed: 0, value: 0 }; 15];
-    for i in 0..len {
-        items[i] = Entry {
-            speed: words[2 * i + 2] % 268435456,
-            value: words[2 * i + 3] % 268435456,
-        };
-    }
-    let page = Page { level, items, len };
-    let mut again = [0u32; 40];
-    if is_page(&page, words, &mut again[0..words.len()]) {
-        Some(page)
-    } else {
-        None
+
+    fn candidate(words: &[u32]) -> Option<Page> {
+        let len = (words[0] % 256) as usize;
+        let level = payload(words[0]) / 256;
+        if len > 15 || level > 4 {
+            return None;
+        }
+        let mut entries = ArrayVec::new();
+        for pair in words[2..2 * len + 2].chunks_exact(2) {
+            entries.push(Entry {
+                speed: payload(pair[0]),
+                value: payload(pair[1]),
+            });
+        }
+        Some(Page { level, entries })
     }
 }

@@ -5,41 +5,39 @@ ghost use Rattle.std.specs.Prelude.{◌<◌};
 ghost use Rattle.page.specs.Block.{DecodesExactly};
 ghost use Rattle.page.specs.Slot.{FormsExact, SlotsExact};
 
-pub mod codec;
+mod codec;
 mod edits;
+pub mod io;
 pub mod page;
 pub mod roots;
-mod slices;
-pub mod slot;
+mod slot;
+pub mod stored;
 
 // Decoding answers a tree block exactly when the words are that block's.
-pub fn pages_are_exact() -> u8
+pub fn pages_are_exact()
     ensures { DecodesExactly }
 {
-    0
 }
 
 // Decoding and reading answer a slot exactly when the words are that slot's.
-pub fn slots_are_exact() -> u8
+pub fn slots_are_exact()
     ensures form { FormsExact }
     ensures slots { SlotsExact }
 {
-    0
 }
 
 #[cfg(test)]
 mod tests {
-    use super::codec::{decode_page, encode_page};
     use super::page::{Entry, Page};
     use super::roots::{Root, Slot};
-    use super::slot::{encode_slot, read_slot};
+    use super::stored::Stored;
     use std::test::Fail;
 
     fn page_words(level: u32, speed: u32, value: u32) -> [u32; 32]
         requires { (level < 5) × ((speed < 10000) × (value < 20000)) }
     {
         let mut words = [7u32; 32];
-        encode_page(&Page::single(level, Entry { speed, value }), &mut words);
+        Page::new(level, &[Entry { speed, value }]).encode(&mut words);
         words
     }
 
@@ -49,13 +47,11 @@ mod tests {
         let mut places: [Option<Root>; 24] = [None; 24];
         places[3] = Some(Root { height, block });
         let mut words = [7u32; 32];
-        encode_slot(
-            &Slot {
-                generation: 4,
-                places,
-            },
-            &mut words,
-        );
+        let slot = Slot {
+            generation: 4,
+            places,
+        };
+        slot.encode(&mut words);
         words
     }
 
@@ -64,7 +60,7 @@ mod tests {
     {
         let mut altered = words;
         altered[at] = word;
-        decode_page(&altered).is_some()
+        Page::decode(&altered).is_some()
     }
 
     // Whether the altered words are a slot in the even block of `blocks` blocks.
@@ -73,7 +69,7 @@ mod tests {
     {
         let mut altered = words;
         altered[at] = word;
-        read_slot(blocks, 0, &altered).is_some()
+        Slot::read(blocks, 0, &altered).is_some()
     }
 
     // A leaf with the row 400, angle -100.
@@ -85,9 +81,9 @@ mod tests {
         assert_eq!(rt; words[2], 0x3000_0190);
         assert_eq!(rt; words[3], 0x4000_22C4);
         assert_eq!(rt; words[31], 0);
-        match decode_page(&words) {
+        match Page::decode(&words) {
             Some(back) => {
-                assert_eq!(rt; back.items[0].value, 8900);
+                assert_eq!(rt; back.entries[0].value, 8900);
                 Ok(())
             },
             None => Err(Fail::new("the words are a leaf's")),

@@ -2,7 +2,7 @@
 ghost use Rattle.std.specs.Prelude.{◌≡◌, ℕ, ◌<◌, length};
 
 // The root of a clone's tree: the tree's height and the root's block, as they fit a clone word.
-#[derive(Clone, Copy)]
+#[derive(Clone, Copy, PartialEq, Eq, Debug)]
 pub struct Root {
     pub height: u32,
     pub block: u32,
@@ -10,7 +10,7 @@ pub struct Root {
 }
 
 // A generation, and the root of each clone that is there.
-#[derive(Clone, Copy)]
+#[derive(Clone, Copy, PartialEq, Eq, Debug)]
 pub struct Slot {
     pub generation: u32,
     pub places: [Option<Root>; 24],

@@ -1,34 +1,27 @@
-use Rattle.std.proofs.Common.{◌≡◌, ℕ, suc, ◌-◌, ◌<◌, ◌≤◌, get_or, sym, ap, subst, arith, below_more}
-use Rattle.page.specs.View.{entries}
-use Rattle.page.proofs.Pages.{entries_at}
-use Rattle.page.proofs.Editing.{covers_low}
+use Rattle.std.proofs.Common.{◌≡◌, ℕ, ◌<◌, ◌≤◌, List, map, length, drop, unwrap_or, sym, ap, ◌∙◌, subst, arith, rules, tests}
+use Rattle.std.proofs.lemmas.List.{drop-map}
+use Rattle.std.proofs.lemmas.Slice.{between_to_end}
+use Rattle.std.proofs.lemmas.Iterator.{IsFirst-from_position, YieldsList-from_slice}
+use Rattle.std.specs.Slice.Iter.{iter_rest}
+use Rattle.page.specs.View.{pair, entries}
+use Rattle.page.proofs.Editing.{First, first_found, covers_past, covers_low}
 use Rattle.page.proofs.page.Page.covering.Goals as goal
 
-pub loop-i-init : goal.loop-i-init
-loop-i-init c = (omega arith, c.requires, λ k h l. absurd (omega arith))
+found : (c : goal.After-unwrap_or) → First (λ k. k ≤ c.args.speed) (λ k. c.args.speed < k) (drop 1 (entries c.args.self.now)) c.unwrap_or.result
+found c =
+    let s = c.args.speed in
+    let xs = c.args.self.now.entries.items in
+    let later : iter_rest c.iter.result ≡ drop 1 xs = c.iter.ensures.rest ∙ between_to_end c.deref.result.now 1 _ (omega arith) ∙ ap (drop 1) c.deref.ensures.0 in
+    let f : First (λ k. k ≤ s) (λ k. s < k) (map pair (drop 1 xs)) (unwrap_or c.position-at.result (length (drop 1 xs)))
+    = first_found (λ k. k ≤ s) (λ k. s < k) (drop 1 xs) c.position-at.result
+    (IsFirst-from_position _ _ _ (λ e. s < e.speed) (λ e. e.speed ≤ s) c.position-at.ensures.ran
+    (YieldsList-from_slice (drop 1 xs) later)
+    (λ x q k. search (rules, tests)) (λ x q k. search (rules, tests))) in
+    subst (λ (es : List (ℕ × ℕ)). First (λ k. k ≤ s) (λ k. s < k) es c.unwrap_or.result) (sym (drop-map pair 1 xs))
+    (subst (First (λ k. k ≤ s) (λ k. s < k) (map pair (drop 1 xs))) (ap (λ (n : ℕ). unwrap_or c.position-at.result n) (ap length (sym later ∙ c.iter.ensures.rest)) ∙ sym c.unwrap_or.ensures) f)
 
-pub loop-i-preserved : goal.loop-i-preserved
-loop-i-preserved c =
-    let e = ap (λ (q : ℕ × ℕ). q.0) (entries_at c.args.self.now c.loop-i.i c.index-self-i.result c.loop-i-test.true) in
-    (omega arith, omega arith, below_more (λ (k : ℕ). 1 ≤ k → (get_or (entries c.args.self.now) k (0, 0)).0 ≤ c.args.speed) c.loop-i.i c.loop-i.invariant.2 (λ h. omega (arith, e, c.if-speed-self.false)))
+pub returns-clause-past : goal.returns-clause-past
+returns-clause-past c = covers_past _ _ _ (found c)
 
-pub returns-then-speed-self : goal.returns-then-speed-self
-returns-then-speed-self c =
-    let e = ap (λ (q : ℕ × ℕ). q.0) (entries_at c.args.self.now c.loop-i.i c.index-self-i.result c.loop-i-test.true) in
-    let q : suc (c.loop-i.i - 1) ≡ c.loop-i.i = omega (arith, c.loop-i.invariant.0) in
-    record {
-      within = omega (arith, c.loop-i-test.true);
-      past = λ k h. c.loop-i.invariant.2 (suc k) (omega arith) (omega arith);
-      low = covers_low (entries c.args.self.now) c.args.speed c.loop-i.i (c.loop-i.i - 1) q c.loop-i.invariant.2;
-      high = λ h. subst (λ (k : ℕ). c.args.speed < (get_or (entries c.args.self.now) k (0, 0)).0) (sym q) (omega (arith, e, c.if-speed-self.true));
-    }
-
-pub returns : goal.returns
-returns c =
-    let q : suc (c.args.self.now.len - 1) ≡ c.loop-i.i = omega (arith, c.requires) in
-    record {
-      within = omega (arith, c.requires);
-      past = λ k h. c.loop-i.invariant.2 (suc k) (omega arith) (omega arith);
-      low = covers_low (entries c.args.self.now) c.args.speed c.loop-i.i (c.args.self.now.len - 1) q c.loop-i.invariant.2;
-      high = λ h. absurd (omega (arith, h, c.requires));
-    }
+pub returns-clause-low : goal.returns-clause-low
+returns-clause-low c = covers_low _ _ _ (found c)

@@ -1,21 +1,21 @@
-use Rattle.std.proofs.Common.{◌≡◌, ℕ, get_or, sym, refl, ap, ◌∙◌, arith, below_more}
-use Rattle.page.specs.View.{entries}
-use Rattle.page.proofs.Pages.{entries_length, entries_at}
-use Rattle.page.proofs.Editing.{del_hit, del_miss}
+use Rattle.std.proofs.Common.{◌≡◌, Some, None, map, sym, ap, ◌∙◌, arith, rules, tests}
+use Rattle.std.proofs.lemmas.Iterator.{IsFirst-from_position, YieldsList-from_slice}
+use Rattle.page.specs.View.{pair, entries}
+use Rattle.page.proofs.Editing.{first_found, del_here, del_none}
+use Rattle.page.proofs.Pages.{entries_length}
 use Rattle.page.proofs.page.Page.without_row.Goals as goal
 
-pub loop-i-preserved : goal.loop-i-preserved
-loop-i-preserved c =
-    let e = ap (λ (q : ℕ × ℕ). q.0) (entries_at c.args.self.now c.loop-i.i c.index-self-i.result c.loop-i-test.true) in
-    below_more (λ (k : ℕ). c.args.speed ≡ (get_or (entries c.args.self.now) k (0, 0)).0 → ⊥) c.loop-i.i c.loop-i.invariant (λ h. c.if-speed-self.false (h ∙ e))
+pub returns-in-Some-clause-these : goal.returns-in-Some-clause-these
+returns-in-Some-clause-these c =
+    let s = c.args.speed in
+    let p = c.args.self.now in
+    let h = IsFirst-from_position _ _ _ (λ e. s ≡ e.speed) (λ e. s ≡ e.speed → ⊥) c.in-Some.ensures.ran (YieldsList-from_slice p.entries.items cc) (λ x q k. search (rules, tests)) (λ x q k. search (rules, tests)) in
+    c.spliced.ensures.these ∙ sym (del_here s (entries p) c.in-Some.i (first_found (λ k. s ≡ k → ⊥) (λ k. s ≡ k) p.entries.items (Some c.in-Some.i) h) (omega (arith, entries_length p, h.0)))
 
-pub returns-then-speed-self : goal.returns-then-speed-self
-returns-then-speed-self c =
-    let e = ap (λ (q : ℕ × ℕ). q.0) (entries_at c.args.self.now c.loop-i.i c.index-self-i.result c.loop-i-test.true) in
-    record {
-      level = c.without.ensures.level;
-      these = c.without.ensures.these ∙ sym (del_hit c.args.speed (entries c.args.self.now) c.loop-i.i (omega (arith, entries_length c.args.self.now, c.loop-i-test.true)) c.loop-i.invariant (c.if-speed-self.true ∙ sym e));
-    }
-
-pub returns : goal.returns
-returns c = record { level = refl; these = sym (del_miss c.args.speed (entries c.args.self.now) (λ k h. c.loop-i.invariant k (omega (arith, entries_length c.args.self.now)))) }
+pub returns-in-None-clause-these : goal.returns-in-None-clause-these
+returns-in-None-clause-these c =
+    let s = c.args.speed in
+    let p = c.args.self.now in
+    let f = first_found (λ k. s ≡ k → ⊥) (λ k. s ≡ k) p.entries.items None
+    (IsFirst-from_position _ _ _ (λ e. s ≡ e.speed) (λ e. s ≡ e.speed → ⊥) c.in-None.ensures.ran (YieldsList-from_slice p.entries.items cc) (λ x q k. search (rules, tests)) (λ x q k. search (rules, tests))) in
+    c.new.ensures.these ∙ ap (map pair) c.as_slice-entries.ensures.value ∙ sym (del_none s (entries p) _ f (omega (arith, entries_length p)))
