@@ -16,15 +16,13 @@ pub mod stored;
 // Decoding answers a tree block exactly when the words are that block's.
 pub fn pages_are_exact()
     ensures { DecodesExactly }
-{
-}
+{}
 
 // Decoding and reading answer a slot exactly when the words are that slot's.
 pub fn slots_are_exact()
     ensures form { FormsExact }
     ensures slots { SlotsExact }
-{
-}
+{}
 
 #[cfg(test)]
 mod tests {
