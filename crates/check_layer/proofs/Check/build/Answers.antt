@@ -9,7 +9,7 @@ returns g c =
     let m = g.D.Device.meaning c.args.below in
     let e = c.flush.ensures.after in
     record {
-      built = (omega arith, c.flush.ensures.stays, e);
+      built = (omega arith, e);
       shows = ap checked e;
       cut = λ p k. subst (λ x. Cut (checked p) (checked x)) (sym e) (built_cut p m (omega arith) k);
     }
