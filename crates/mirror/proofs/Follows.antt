@@ -5,9 +5,10 @@ use Rattle.std.proofs.lemmas.List.{length-map, length-set}
 use Rattle.std.proofs.lemmas.Bool.{cases_eq}
 use Rattle.std.proofs.lemmas.Bool.Decides.{nat_tests}
 use Rattle.device.specs.declared.LayerMark.{LayerMark}
+use Rattle.device.specs.declared.Layer.{Layer}
 use Rattle.device.specs.declared.Layer.TheVariants.{Mirror}
 use Rattle.device.specs.declared.DeviceFault.{DeviceFault}
-use Rattle.device.specs.Meaning.{Meaning, Cell, Content, words, damaged, raised, flushed, flushed_cell, written, written_cell, no_cell, spent, blocks_of, reading, held, answered, filled, raised_fault, current_at}
+use Rattle.device.specs.Meaning.{Meaning, Cell, Content, words, damaged, raised, flushed, flushed_cell, written, written_cell, no_cell, spent, blocks_of, admitted, reading, held, answered, filled, raised_fault, current_at}
 use Rattle.device.specs.Cuts.{cell_at}
 use Rattle.device.proofs.Calls.{reading_at, filled_ok, answered_err}
 use Rattle.device.proofs.Choices.{flush_at, write_at, write_off}
@@ -19,6 +20,10 @@ make w cs l k = record { width = w; cells = cs; left = l; left_mark = k }
 
 pub cell_mirrored : (m n : Meaning) (b : ℕ) → b < blocks_of m → cell_at (mirrored m n) b ≡ both_at m n b
 cell_mirrored m n b h = get_or_table (both_at m n) (blocks_of m) b no_cell h
+
+-- what admission lets in
+pub let_in_at : (l : Layer) (w n b k : ℕ) (u : Unit {0}) → Ok u ≡ admitted l w n b k → (k ≡ w) × (b < n)
+let_in_at l w n b k u p = (grind arith, grind arith)
 
 pub moved : (P : Meaning → Meaning → Type 0) {x x' y y' : Meaning} → x' ≡ x → y' ≡ y → P x y → P x' y'
 moved P p q h = rw (p, q) h
@@ -40,16 +45,22 @@ module _ (x y : Result (List ℕ) DeviceFault) (buf buf₁ buf₂ : List ℕ) wh
   pub first_read : Ok tt ≡ answered x → buf₁ ≡ filled x buf → (Ok tt ≡ answered (either x y)) × (buf₁ ≡ filled (either x y) buf)
   first_read p q = let e = filled_ok x buf buf₁ p q in rw e (refl, refl)
 
-  pub second_read : (e : DeviceFault) → Err e ≡ answered x → buf₁ ≡ filled x buf → Ok tt ≡ answered y → buf₂ ≡ filled y buf₁
+  second_good : (e : DeviceFault) → Err e ≡ answered x → buf₁ ≡ filled x buf → Ok tt ≡ answered y → buf₂ ≡ filled y buf₁
       → (Ok tt ≡ answered (either x y)) × (buf₂ ≡ filled (either x y) buf)
-  second_read e p q r s = rw (answered_err x e p, filled_ok y buf₁ buf₂ r s) (refl, refl)
+  second_good e p q r s = rw (answered_err x e p, filled_ok y buf₁ buf₂ r s) (refl, refl)
 
-  pub none_read : (e f : DeviceFault) → Err e ≡ answered x → buf₁ ≡ filled x buf → Err f ≡ answered y → buf₂ ≡ filled y buf₁
+  none_good : (e f : DeviceFault) → Err e ≡ answered x → buf₁ ≡ filled x buf → Err f ≡ answered y → buf₂ ≡ filled y buf₁
       → (Err (raised_fault e) ≡ answered (either x y)) × (buf₂ ≡ filled (either x y) buf)
-  none_read e f p q r s =
+  none_good e f p q r s =
       let g = answered_err x e p in
       let h = answered_err y f r in
       rw (g, h) (refl, s ∙ ap (λ t. filled t buf₁) h ∙ q ∙ ap (λ t. filled t buf) g)
+
+  pub second_read : (e : DeviceFault) (s r : Result Unit DeviceFault) → Err e ≡ answered x → buf₁ ≡ filled x buf → s ≡ answered y → buf₂ ≡ filled y buf₁
+      → ((u : Unit {0}) → s ≡ Ok u → r ≡ Ok u) → ((f : DeviceFault) → s ≡ Err f → r ≡ Err (raised_fault e))
+      → (r ≡ answered (either x y)) × (buf₂ ≡ filled (either x y) buf)
+  second_read e (Ok u) r p q s t ok err = let g = second_good e p q s t in (ok u refl ∙ g.0, g.1)
+  second_read e (Err f) r p q s t ok err = let g = none_good e f p q s t in (err f refl ∙ g.0, g.1)
 
 -- after both are flushed
 module _ (m n : Meaning) where
