@@ -1,7 +1,7 @@
 // A check layer: a device over one that is a word wider, whose last word is a check of the others.
-#![tactic(auto)]
+#![tactic(auto, using(crate::proofs::Steps::steps))]
 
-ghost use Rattle.std.specs.Prelude.{◌≡◌, ℕ, ◌+◌, ◌-◌, ◌*◌, ◌<◌, ◌≤◌, [], ◌∷◌, ◌++◌, length, take, IfOk, MatchResult, ◌==◌, slice_index};
+ghost use Rattle.std.specs.Prelude.{◌≡◌, ◌+◌, length, IfOk, MatchResult};
 ghost use Rattle.device.specs.declared.Layer.{Layer};
 ghost use Rattle.device.specs.Meaning.{Cut, Meaning, flushed};
 ghost use Rattle.check_layer.specs.Checked.{check_of, with_check, Allowed, checked, fits};
@@ -15,7 +15,7 @@ pub fn check_word(words: &[u32]) -> u32
     words
         .iter()
         .copied()
-        .fold(1u32, |sum, word| sum.rotate_left(5) ^ word)
+        .fold(1, |sum: u32, word| sum.rotate_left(5) ^ word)
 }
 
 // Copies words, and their check after them.
@@ -81,10 +81,11 @@ impl<D: Device> Device for Check<D> {
 
     fn read(&mut self, block: u32, out: &mut [u32]) -> Result<(), DeviceFault> {
         Layer::Check.admit(self.width(), self.blocks(), block, out.len())?;
-        let mut buffer = [0u32; 64];
-        let whole = &mut buffer[..=out.len()];
-        pass_up(self.below.read(block, whole))?;
-        match whole.split_last() {
+        // No block is wider than 64 words.
+        let mut buffer = [0; 64];
+        let stored = &mut buffer[..=out.len()];
+        pass_up(self.below.read(block, stored))?;
+        match stored.split_last() {
             Some((check, words)) if *check == check_word(words) => {
                 out.copy_from_slice(words);
                 Ok(())
@@ -95,10 +96,11 @@ impl<D: Device> Device for Check<D> {
 
     fn write(&mut self, block: u32, words: &[u32]) -> Result<(), DeviceFault> {
         Layer::Check.admit(self.width(), self.blocks(), block, words.len())?;
-        let mut buffer = [0u32; 64];
-        let whole = &mut buffer[..=words.len()];
-        append_check(words, whole);
-        pass_up(self.below.write(block, whole))
+        // No block is wider than 64 words.
+        let mut buffer = [0; 64];
+        let stored = &mut buffer[..=words.len()];
+        append_check(words, stored);
+        pass_up(self.below.write(block, stored))
     }
 
     fn flush(&mut self) {

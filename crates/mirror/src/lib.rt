@@ -1,7 +1,7 @@
 // A mirror: two devices of one shape as one. Each write and each flush goes to both, the first side before the second.
-#![tactic(auto)]
+#![tactic(auto, using(crate::proofs::Steps::steps))]
 
-ghost use Rattle.std.specs.Prelude.{◌≡◌, ℕ, ◌+◌, ◌-◌, ◌*◌, ◌<◌, ◌≤◌, length, IfOk, MatchResult};
+ghost use Rattle.std.specs.Prelude.{◌≡◌, IfOk, MatchResult};
 ghost use Rattle.device.specs.declared.Layer.{Layer};
 ghost use Rattle.device.specs.Meaning.{Meaning, flushed};
 ghost use Rattle.mirror.specs.Mirrored.{Allowed, Alike, Alike-prop, mirrored, fits};

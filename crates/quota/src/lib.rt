@@ -1,7 +1,7 @@
 // A quota: a device that offers the first blocks of the one below it.
-#![tactic(auto)]
+#![tactic(auto, using(crate::proofs::Steps::steps))]
 
-ghost use Rattle.std.specs.Prelude.{◌≡◌, ℕ, ◌+◌, ◌-◌, ◌*◌, ◌<◌, ◌≤◌, length, IfOk, MatchResult};
+ghost use Rattle.std.specs.Prelude.{◌≡◌, IfOk, MatchResult};
 ghost use Rattle.device.specs.declared.Layer.{Layer};
 ghost use Rattle.device.specs.Meaning.{Cut, Meaning, flushed};
 ghost use Rattle.quota.specs.Limited.{Allowed, limited, fits};
