@@ -1,24 +1,18 @@
 -- The check layer, as a function of the meaning below it.
-use Rattle.std.specs.Prelude.{◌≡◌, ℕ, ◌-◌, ◌*◌, ◌/◌, ◌%◌, ◌^◌, ◌≤◌, Bool, true, false, cond, List, [], ◌∷◌, ◌++◌, map, take, Ok, Err, Result, ◌==◌, bit_or, bit_xor, slice_index, refl}
+use Rattle.std.specs.Prelude.{◌≡◌, ℕ, ◌-◌, ◌*◌, ◌/◌, ◌%◌, ◌^◌, ◌≤◌, Bool, true, false, cond, List, [], ◌∷◌, ◌++◌, map, take, ◌==◌, bit_or, bit_xor, slice_index, refl, fold}
 use Rattle.std.proofs.Common.{ap, arith}
 use Rattle.std.proofs.lemmas.List.{length-map, length-take-le}
 use Rattle.std.proofs.ByRecursion.{All-map, All-weaker, All-take}
 use Rattle.device.specs.declared.Layer.TheVariants.{Check}
-use Rattle.device.specs.declared.DeviceFault.{DeviceFault}
-use Rattle.device.specs.declared.DeviceFault.TheVariants.{Damaged}
-use Rattle.device.specs.Meaning.{Meaning, Cell, Content, words, damaged, own, raised, raised_fault, LawfulCell, Lawful, Held}
+use Rattle.device.specs.Meaning.{Meaning, Cell, Content, words, damaged, own, raised, LawfulCell, Lawful, Held}
 
 -- 32 bits, rotated left by 5
 abbrev rotated : ℕ → ℕ
 rotated s = bit_or ((s * 2 ^ 5) % 2 ^ 32) (s / 2 ^ 27)
 
 -- The check of some words: it starts at 1; for each word it is rotated left by 5, and the word is XORed in.
-abbrev pub check_from : ℕ → List ℕ → ℕ
-check_from s [] = s
-check_from s (x ∷ xs) = check_from (bit_xor (rotated s) x) xs
-
 abbrev pub check_of : List ℕ → ℕ
-check_of ws = check_from 1 ws
+check_of ws = fold (λ s x. bit_xor (rotated s) x) 1 ws
 
 of_0 : check_of (0 ∷ []) ≡ 32
 of_0 = refl
@@ -45,11 +39,6 @@ checked_cell w c = record { persisted = checked_content w c.persisted; current =
 -- what the layer means
 abbrev pub checked : Meaning → Meaning
 checked m = record { width = m.width - 1; cells = map (checked_cell (m.width - 1)) m.cells; left = m.left; left_mark = raised m.left_mark }
-
--- what a read below comes to here, at width w
-abbrev pub through : ℕ → Result (List ℕ) DeviceFault → Result (List ℕ) DeviceFault
-through w (Ok ws) = cond (slice_index ws w == check_of (take w ws)) (Ok (take w ws)) (Err (Damaged (own Check)))
-through w (Err e) = Err (raised_fault e)
 
 -- It keeps the rules of every device.
 held_if : (b : Bool) (w : ℕ) (x y : Content) → Held w x → Held w y → Held w (cond b x y)

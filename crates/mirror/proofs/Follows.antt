@@ -1,18 +1,15 @@
 -- How the mirror layer's meaning follows the two below it.
-use Rattle.std.proofs.Common.{◌≡◌, ℕ, ◌+◌, ◌<◌, ◌≤◌, min, max, cond, ltb, List, map, set, Ok, Err, Result, sym, refl, ap, ◌∙◌, subst, ⊎_elim, arith}
+use Rattle.std.proofs.Common.{◌≡◌, ℕ, ◌+◌, ◌<◌, ◌≤◌, min, max, cond, ltb, List, map, set, sym, ap, ◌∙◌, subst, ⊎_elim, arith}
 use Rattle.std.specs.List.{range_with_len}
 use Rattle.std.proofs.lemmas.List.{length-map, length-set}
 use Rattle.std.proofs.lemmas.Bool.{cases_eq}
 use Rattle.std.proofs.lemmas.Bool.Decides.{nat_tests}
 use Rattle.device.specs.declared.LayerMark.{LayerMark}
-use Rattle.device.specs.declared.Layer.TheVariants.{Mirror}
-use Rattle.device.specs.declared.DeviceFault.{DeviceFault}
-use Rattle.device.specs.Meaning.{Meaning, Cell, Content, words, damaged, raised, flushed, flushed_cell, written, written_cell, no_cell, spent, blocks_of, reading, held, answered, filled, raised_fault, current_at}
+use Rattle.device.specs.Meaning.{Meaning, Cell, words, raised, flushed, flushed_cell, written, written_cell, no_cell, spent, blocks_of}
 use Rattle.device.specs.Cuts.{cell_at}
-use Rattle.device.proofs.Calls.{reading_at, filled_ok, answered_err}
 use Rattle.device.proofs.Choices.{flush_at, write_at, write_off}
 use Rattle.device.proofs.Tables.{get_or_table, set_table, same_table, map_map}
-use Rattle.mirror.specs.Mirrored.{Allowed, Alike, One, mirrored, mirrored_cell, both_at, pick, either, mirrored_blocks}
+use Rattle.mirror.specs.Mirrored.{Allowed, Alike, One, mirrored, mirrored_cell, both_at, pick}
 
 abbrev make : ℕ → List Cell → ℕ → LayerMark → Meaning
 make w cs l k = record { width = w; cells = cs; left = l; left_mark = k }
@@ -22,34 +19,6 @@ cell_mirrored m n b h = get_or_table (both_at m n) (blocks_of m) b no_cell h
 
 pub moved : (P : Meaning → Meaning → Type 0) {x x' y y' : Meaning} → x' ≡ x → y' ≡ y → P x y → P x' y'
 moved P p q h = rw (p, q) h
-
--- what a read answers, by the two sides
-pub mirrored_reading : (m n : Meaning) (b k : ℕ) → b < blocks_of m → k ≡ m.width → reading Mirror (mirrored m n) b k ≡ either (held (current_at m b)) (held (current_at n b))
-mirrored_reading m n b k h e =
-    reading_at Mirror (mirrored m n) b k e (omega (arith, mirrored_blocks m n))
-    ∙ ap (λ (c : Cell). held c.current) (cell_mirrored m n b h)
-    ∙ by_content (current_at m b) (current_at n b)
-  where
-    by_content : (x y : Content) → held (pick x y) ≡ either (held x) (held y)
-    by_content (words ws) y = refl
-    by_content (damaged j) (words ws) = refl
-    by_content (damaged j) (damaged k) = refl
-
--- reading one side, and the other where the first refuses
-module _ (x y : Result (List ℕ) DeviceFault) (buf buf₁ buf₂ : List ℕ) where
-  pub first_read : Ok tt ≡ answered x → buf₁ ≡ filled x buf → (Ok tt ≡ answered (either x y)) × (buf₁ ≡ filled (either x y) buf)
-  first_read p q = let e = filled_ok x buf buf₁ p q in rw e (refl, refl)
-
-  pub second_read : (e : DeviceFault) → Err e ≡ answered x → buf₁ ≡ filled x buf → Ok tt ≡ answered y → buf₂ ≡ filled y buf₁
-      → (Ok tt ≡ answered (either x y)) × (buf₂ ≡ filled (either x y) buf)
-  second_read e p q r s = rw (answered_err x e p, filled_ok y buf₁ buf₂ r s) (refl, refl)
-
-  pub none_read : (e f : DeviceFault) → Err e ≡ answered x → buf₁ ≡ filled x buf → Err f ≡ answered y → buf₂ ≡ filled y buf₁
-      → (Err (raised_fault e) ≡ answered (either x y)) × (buf₂ ≡ filled (either x y) buf)
-  none_read e f p q r s =
-      let g = answered_err x e p in
-      let h = answered_err y f r in
-      rw (g, h) (refl, s ∙ ap (λ t. filled t buf₁) h ∙ q ∙ ap (λ t. filled t buf) g)
 
 -- after both are flushed
 module _ (m n : Meaning) where

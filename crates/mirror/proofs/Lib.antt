@@ -1,2 +1,3 @@
 pub mod Follows
 pub mod Cuts
+pub mod Steps

@@ -1,11 +1,12 @@
 -- The mirror layer, as a function of the two meanings below it.
-use Rattle.std.specs.Prelude.{◌≡◌, ℕ, ◌<◌, ◌≤◌, min, max, cond, List, map, Ok, Err, Result, nat_lt}
-use Rattle.std.proofs.Common.{sym, subst, arith}
+use Rattle.std.specs.Prelude.{◌≡◌, ℕ, ◌<◌, ◌≤◌, min, max, cond, List, map, nat_lt}
+use Rattle.std.proofs.Common.{sym, ◌∙◌, subst, arith}
+use denote.Struct.Props.{props}
+use mathlib.Core.HLevel.{is_prop→PathP}
 use Rattle.std.specs.List.{range_with_len}
 use Rattle.std.proofs.lemmas.List.FromFn.{length-map-range_with_len}
 use Rattle.std.proofs.ByRecursion.{All-get_or}
-use Rattle.device.specs.declared.DeviceFault.{DeviceFault}
-use Rattle.device.specs.Meaning.{Meaning, Cell, Content, words, damaged, raised, raised_fault, LawfulCell, Lawful, Held, no_cell, blocks_of}
+use Rattle.device.specs.Meaning.{Meaning, Cell, Content, words, damaged, raised, LawfulCell, Lawful, Held, no_cell, blocks_of}
 use Rattle.device.specs.Cuts.{cell_at}
 use Rattle.device.proofs.Tables.{all_table}
 
@@ -18,12 +19,6 @@ abbrev pub pick : Content → Content → Content
 pick (words ws) y = words ws
 pick (damaged j) (words ws) = words ws
 pick (damaged j) (damaged k) = damaged (raised j)
-
--- the same of what the two sides' reads give
-abbrev pub either : Result (List ℕ) DeviceFault → Result (List ℕ) DeviceFault → Result (List ℕ) DeviceFault
-either (Ok ws) r = Ok ws
-either (Err e) (Ok ws) = Ok ws
-either (Err e) (Err f) = Err (raised_fault e)
 
 abbrev pub mirrored_cell : Cell → Cell → Cell
 mirrored_cell c d = record { persisted = pick c.persisted d.persisted; current = pick c.current d.current; mark = max c.mark d.mark }
@@ -49,6 +44,25 @@ pub record Alike (m n : Meaning) : Type 0 where
   pub shape : Allowed m n
   pub marks : (b : ℕ) → b < blocks_of m → (cell_at m b).mark ≡ (cell_at n b).mark
   pub currents : (b : ℕ) → b < blocks_of m → 1 ≤ (cell_at m b).mark → One (cell_at m b).current (cell_at n b).current
+
+-- it has one proof at most, as a fact that a type keeps must
+Content-set : IsSet Content
+Content-set = hlevel props
+
+One-prop : (x y : Content) → IsProp (One x y)
+One-prop x y u v =
+    let e : u.0 ≡ v.0 = same u.0 v.0 (sym u.1 ∙ v.1) in
+    λ i. (
+      e i,
+      is_prop→PathP (λ i. x ≡ words (e i)) (λ i. Content-set x (words (e i))) u.1 v.1 i,
+      is_prop→PathP (λ i. y ≡ words (e i)) (λ i. Content-set y (words (e i))) u.2 v.2 i,
+    )
+  where
+    same : (us vs : List ℕ) → words us ≡ words vs → us ≡ vs
+    same us vs p = cc
+
+pub Alike-prop : (m n : Meaning) → IsProp (Alike m n)
+Alike-prop m n = hlevel (One-prop, props)
 
 -- It keeps the rules of every device.
 pub held_pick : (w : ℕ) (x y : Content) → Held w x → Held w y → Held w (pick x y)
