@@ -12,7 +12,7 @@ use Rattle.device.specs.declared.Layer.TheVariants.{Memory}
 use Rattle.device.proofs.Calls.{let_in, reading_at}
 use Rattle.device.proofs.Tables.{map_map, get_or_table, set_table, same_table}
 use Rattle.memory.specs.Fit.{rows, block_length}
-use Rattle.memory.specs.Memory.{memory, cleared, Sound, Shaped, block_of, cell_of, Leaves, LeavesBlock, Outlasts}
+use Rattle.memory.specs.Memory.{memory, cleared, Sound, block_of, cell_of, Leaves, LeavesBlock, Outlasts}
 
 module _ (xs : List ℕ) (w n : ℕ) (long : length xs ≡ n * w) where
   module _ (b k : ℕ) (ys : List ℕ) (h : b < n) (size : length ys ≡ w) (count : k ≡ w) where
@@ -113,38 +113,6 @@ module _ (cur per marks : List ℕ) (w : ℕ) (s : Sound cur per marks w) where
     where
       with_cells : List Cell → Meaning
       with_cells cs = record { width = w; cells = cs; left = endless; left_mark = own Memory }
-
-  pub flush_sound : Sound cur cur (replicate (length marks) 0) w
-  flush_sound =
-      let n : length (replicate {A = ℕ} (length marks) 0) ≡ length marks = length-replicate (length marks) 0 in
-      record {
-        cur_len = s.cur_len ∙ ap (λ j. j * w) (sym n);
-        per_len = s.cur_len ∙ ap (λ j. j * w) (sym n);
-        some = omega (arith, s.some);
-        few = omega (arith, s.few);
-        broad = s.broad;
-        narrow = s.narrow;
-        counts = λ j j<. omega (arith, get_or-replicate {A = ℕ} (length marks) j 0 0 (omega arith));
-        clean = λ j j< z. refl;
-        cur_fit = s.cur_fit;
-        per_fit = s.cur_fit;
-      }
-
-pub opened_sound : (per : List ℕ) (n w : ℕ) → Shaped (length per) (length per) n w → AllByRecursion (λ x. x < 2 ^ 32) per → Sound per per (replicate n 0) w
-opened_sound per n w s fits =
-    let e : length (replicate {A = ℕ} n 0) ≡ n = length-replicate n 0 in
-    record {
-      cur_len = s.cur_len ∙ ap (λ j. j * w) (sym e);
-      per_len = s.cur_len ∙ ap (λ j. j * w) (sym e);
-      some = omega (arith, s.some);
-      few = omega (arith, s.few);
-      broad = s.broad;
-      narrow = s.narrow;
-      counts = λ j j<. omega (arith, get_or-replicate {A = ℕ} n j 0 0 (omega arith));
-      clean = λ j j< z. refl;
-      cur_fit = fits;
-      per_fit = fits;
-    }
 
 -- opening after a cut shows a cut of what was shown before
 module _ (cur per marks left : List ℕ) (w : ℕ) (s : Sound cur per marks w) (l : Leaves w cur per marks left) where
