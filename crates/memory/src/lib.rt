@@ -20,7 +20,7 @@ pub struct Memory<'a> {
     ghost sound: { Sound current.now persisted.now marks.now width } by { Prim.hlevel props },
 }
 
-// What a memory is made of.
+// What a memory is made of: each slice is lent apart, since only the persisted words outlast a cut.
 #[derive(Drop)]
 pub struct Slices<'a> {
     pub current: &'a mut [u32],
@@ -35,10 +35,8 @@ impl<'a> Slices<'a> {
             (Shaped (length self.now.current.now) (length self.now.persisted.now) (length self.now.marks.now) width → ⊥) }
     {
         let blocks = self.marks.len();
-        1 <= blocks
-            && blocks <= 4096
-            && 1 <= width
-            && width <= 64
+        (1..=4096).contains(&blocks)
+            && (1..=64).contains(&width)
             && self.current.len() == blocks * width
             && self.persisted.len() == blocks * width
     }
