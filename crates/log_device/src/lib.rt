@@ -56,12 +56,9 @@ fn are_records(image: &[u32], blocks: u32, width: usize, count: usize) -> bool
     requires narrow { width ≤ 64 }
     ensures { MatchBool result (AreRecords image.now blocks width count) (AreRecords image.now blocks width count → ⊥) }
 {
-    for record in image[1..place(width, count)].chunks_exact(width + 1) {
-        if !is_record(record[0], blocks) {
-            return false;
-        }
-    }
-    true
+    image[1..place(width, count)]
+        .chunks_exact(width + 1)
+        .all(|record| is_record(record[0], blocks))
 }
 
 // How many records the head says are flushed.
@@ -76,7 +73,7 @@ fn flushed(image: &[u32]) -> usize
 fn is_shaped(image: &[u32], blocks: u32, width: usize) -> bool
     ensures { MatchBool result (Shaped (length image.now) blocks width) (Shaped (length image.now) blocks width → ⊥) }
 {
-    !image.is_empty() && 1 <= blocks && blocks <= 4096 && 1 <= width && width <= 64
+    !image.is_empty() && (1..=4096).contains(&blocks) && (1..=64).contains(&width)
 }
 
 // Are the head and the words of the flushed records in order?
