@@ -1,7 +1,7 @@
 -- The blocks of a grant, as they are found, taken and given back.
-use Rattle.std.proofs.Common.{◌≡◌, ℕ, suc, ◌+◌, ◌-◌, ◌<◌, ◌≤◌, Bool, true, false, cond, ltb, List, [], ◌∷◌, ◌++◌, length, get_or, take, Some, None, sym, refl, ap, ◌∙◌, arith}
+use Rattle.std.proofs.Common.{◌≡◌, ℕ, suc, ◌+◌, ◌-◌, ◌<◌, ◌≤◌, Bool, true, false, cond, ltb, List, [], ◌∷◌, ◌++◌, length, get_or, take, Some, sym, refl, ap, ◌∙◌, arith}
 use Rattle.std.proofs.lemmas.List.{length-append, append_assoc, take-append-le, take_all}
-use Rattle.std.proofs.lemmas.Bool.{le-leb, lt-leb}
+use Rattle.std.proofs.lemmas.Bool.{le-leb}
 use Rattle.counts.specs.Counts.{spare, free_blocks}
 use Rattle.counts.specs.Grants.{lowest_free}
 
@@ -34,7 +34,3 @@ full cs xs rest n e f =
     let t = le-leb n (length (free_blocks cs)) long in
     let front : take n (free_blocks cs) ≡ xs = ap (take n) f ∙ take-append-le n xs rest (omega (arith, e)) ∙ take_all n xs (omega (arith, e)) in
     rw t (ap Some (sym front))
-
--- all are seen, and they are too few
-pub scarce : (cs xs : List ℕ) (n : ℕ) → length xs < n → free_blocks cs ≡ xs → None ≡ lowest_free n cs
-scarce cs xs n h f = let t = lt-leb n (length (free_blocks cs)) (omega (arith, ap length f)) in rw t
