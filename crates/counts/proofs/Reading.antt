@@ -51,12 +51,9 @@ page_read c m b r h a = go r a
     go (Ok None) a = absurd (false≢true (ap is_some (a.2 ∙ ap decode (same_words _ _ _ a.1 e) ∙ sym x.node) ∙ h))
     go (Err f) a = absurd (false≢true (ap is_ok (sym a ∙ e)))
 
--- so it is neither a refusal nor none, and is that page
-pub not_none : (r : Result (Option Page) DeviceFault) (p : Page) (o : Option Page) → r ≡ Ok (Some p) → r ≡ Ok o → o ≡ None → ⊥
-not_none r p o a b c = let e : ◌≡◌ {A = Option Page} (Some p) None = cc in false≢true (ap is_some (sym e))
-
-pub not_refused : (r : Result (Option Page) DeviceFault) (p : Page) (f : DeviceFault) → r ≡ Ok (Some p) → r ≡ Err f → ⊥
-not_refused r p f a b = false≢true (ap is_ok (sym b ∙ a))
+-- so what it answers is that page
+pub inner : (r : Result (Option Page) DeviceFault) (p : Page) (o : Option Page) → r ≡ Ok (Some p) → r ≡ Ok o → o ≡ Some p
+inner r p o a b = cc
 
 pub that_page : (r : Result (Option Page) DeviceFault) (p q : Page) (o : Option Page) → r ≡ Ok (Some p) → r ≡ Ok o → o ≡ Some q → p ≡ q
 that_page r p q o a b c = cc

@@ -15,21 +15,17 @@ use page::page::Page;
 pub use store::Store;
 
 // Where the counts keep their equation, a block is counted above 0 exactly when a place reaches it: free is unreached.
-pub fn counted_is_reached() -> u8
+pub fn counted_is_reached()
     ensures { AliveIsReached }
-{
-    0
-}
+{}
 
 // Each move keeps the counts' equation, and the counts have 16 bits.
-pub fn moves_keep_the_counts() -> u8
+pub fn moves_keep_the_counts()
     ensures retain { RetainKeeps }
     ensures opening { OpenKeeps }
     ensures link { LinkKeeps }
     ensures fit { CountsFit }
-{
-    0
-}
+{}
 
 // How many references each block has.
 #[derive(Drop)]

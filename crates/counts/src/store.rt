@@ -30,13 +30,12 @@ impl<D: Device> Model for Store<D> {
 
     ghost view = { λ s. (D.Device.meaning s.device, s.counts.of.items) };
 
-    ghost invariant = { λ s. D.Device.sound s.device × Wide (D.Device.meaning s.device) × (length s.counts.of.items ≡ blocks_of (D.Device.meaning s.device)) };
+    ghost invariant = { λ s. Wide (D.Device.meaning s.device) × (length s.counts.of.items ≡ blocks_of (D.Device.meaning s.device)) };
 }
 
 impl<D: Device> Store<D> {
     // A device and the counts of its blocks.
     pub fn new(device: D, counts: Counts) -> Store<D>
-        requires sound { D.Device.sound device }
         requires wide { Wide (D.Device.meaning device) }
         requires sized { length counts.of.items ≡ blocks_of (D.Device.meaning device) }
         ensures { result ≡ (D.Device.meaning device, counts.of.items) }
@@ -46,8 +45,7 @@ impl<D: Device> Store<D> {
 
     // The device and the counts.
     pub fn into_parts(self) -> (D, Counts)
-        ensures sound { D.Device.sound result.0 }
-        ensures parts { (D.Device.meaning result.0, result.1.of.items) ≡ self }
+        ensures { (D.Device.meaning result.0, result.1.of.items) ≡ self }
     {
         let Store { device, counts } = self;
         (device, counts)
@@ -59,11 +57,7 @@ impl<D: Device> Store<D> {
         ensures kept { self.new ≡ self.old }
         ensures page { block_at self.old.0 block ≡ Some (view result) }
     {
-        match read_block(&mut self.device, block) {
-            Ok(Some(page)) => page,
-            Ok(None) => unreachable(),
-            Err(_) => unreachable(),
-        }
+        read_block(&mut self.device, block).unwrap().unwrap()
     }
 
     // Gives up a reference to a block for references to its children.
@@ -85,10 +79,8 @@ impl<D: Device> Store<D> {
         requires low { page.now.level < 5 }
         ensures { self.new ≡ step (linking block (view page.now)) self.old }
     {
-        match write_block(&mut self.device, block, page) {
-            Ok(()) => self.counts.set(block, 1),
-            Err(_) => unreachable(),
-        }
+        write_block(&mut self.device, block, page).unwrap();
+        self.counts.set(block, 1);
     }
 
     // Gives up a reference to a block; where it was the last, those to its children too.

@@ -20,4 +20,4 @@ open-requires g c =
     }
 
 pub invariant_of-self : goal.invariant_of-self
-invariant_of-self g c = (c.self.invariant.0, c.self.invariant.1, ap length c.open.ensures ∙ length_opened (kids_of (Some (view c.read_page-page.result))) c.args.block c.self.inside.counts.of.items ∙ c.self.invariant.2)
+invariant_of-self g c = (c.self.invariant.0, ap length c.open.ensures ∙ length_opened (kids_of (Some (view c.read_page-page.result))) c.args.block c.self.inside.counts.of.items ∙ c.self.invariant.1)
