@@ -6,19 +6,19 @@ mod report;
 mod store;
 mod task;
 
-use pile::{Medium, Part};
+use pile::Medium;
 
 fn run(rt: &HostRuntime) -> anyhow::Result<()> {
     let mut medium = Medium::blank(rt.alloc())?;
     println!(rt;
         "pile: a mirror of (check over memory) and (check over log), 16 blocks of 32 words"
     )?;
-    pile::visit(rt, &mut medium, Part::First)?;
+    task::before_the_cut(rt, &mut medium.open()?)?;
     medium.lose_power();
     println!(rt;
         "The power fails. Of the memory only the persisted words are left, of the log its image."
     )?;
-    pile::visit(rt, &mut medium, Part::Second)
+    task::after_the_cut(rt, &mut medium.open()?)
 }
 
 fn main(rt: HostRuntime) -> anyhow::Result<()> {

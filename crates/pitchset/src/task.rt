@@ -1,16 +1,9 @@
 // The task, over any device that is wide enough.
-ghost use Rattle.std.specs.Prelude.{◌≡◌, ◌≤◌};
-
 use super::report::{Hundredths, print_rows};
-use super::store::{leaf_of, load, save};
-use anyhow::anyhow;
-use device::{Device, DeviceFault};
-use page::page::Page;
+use super::store::{BLOCK, TableStore};
+use device::Device;
 use std::alloc::Global;
 use table::{Row, angle_at};
-
-// Where the table is kept.
-const BLOCK: u32 = 2;
 
 // The pitch of a 5 MW turbine type over the wind speed, in hundredths of a metre per second and of a degree.
 const TYPE_TABLE: [(u32, i32); 13] = [
@@ -46,71 +39,24 @@ const CHANGED_TABLE: [(u32, i32); 10] = [
 // Rows of pairs of numbers.
 fn rows_of(heap: Global, pairs: &[(u32, i32)]) -> anyhow::Result<Vec<Row>> {
     let mut rows = Vec::new(heap);
-    for pair in pairs {
-        let Ok(row) = Row::new(pair.0, pair.1) else {
-            return Err(anyhow!("a pair of numbers is no row"));
-        };
-        rows.push(row)?;
+    for (speed, angle) in pairs {
+        rows.push(Row::new(*speed, *angle)?)?;
     }
     Ok(rows)
 }
 
-// The rows of a leaf, as pairs of numbers.
-fn pairs_of(heap: Global, leaf: &Page) -> anyhow::Result<Vec<(u32, i32)>> {
-    let mut pairs = Vec::new(heap);
-    for i in 0..leaf.len {
-        let entry = leaf.items[i];
-        pairs.push((entry.speed, entry.value as i32 - 9_000))?;
-    }
-    Ok(pairs)
-}
-
-fn save_rows<D: Device>(device: &mut D, rows: &[Row]) -> anyhow::Result<()>
-    requires sound { D.Device.sound device.old }
-    requires wide { (32 ≤ (D.Device.meaning device.old).width) × ((D.Device.meaning device.old).width ≤ 40) }
-    ensures stays { D.Device.sound device.new }
-    ensures width { (D.Device.meaning device.new).width ≡ (D.Device.meaning device.old).width }
-{
-    let Some(leaf) = leaf_of(rows) else {
-        return Err(anyhow!("too many rows for one leaf"));
-    };
-    match save(device, BLOCK, &leaf) {
-        Ok(()) => Ok(()),
-        Err(_) => Err(anyhow!("the device refuses the write")),
-    }
-}
-
-fn load_rows<D: Device>(heap: Global, device: &mut D) -> anyhow::Result<Vec<Row>>
-    requires sound { D.Device.sound device.old }
-    requires wide { (32 ≤ (D.Device.meaning device.old).width) × ((D.Device.meaning device.old).width ≤ 40) }
-    ensures stays { D.Device.sound device.new }
-    ensures same { D.Device.meaning device.new ≡ D.Device.meaning device.old }
-{
-    let Ok(found) = load(device, BLOCK) else {
-        return Err(anyhow!("the device refuses the read"));
-    };
-    let Some(leaf) = found else {
-        return Err(anyhow!("the block holds no table"));
-    };
-    let pairs = pairs_of(heap, &leaf)?;
-    rows_of(heap, &pairs)
-}
-
 // Keeps the type's table, and then writes a changed one that no flush follows.
-pub(crate) fn before_the_cut<D: Device>(rt: &HostRuntime, device: &mut D) -> anyhow::Result<()>
-    requires sound { D.Device.sound device.old }
-    requires wide { (32 ≤ (D.Device.meaning device.old).width) × ((D.Device.meaning device.old).width ≤ 40) }
-    ensures stays { D.Device.sound device.new }
-{
+pub(crate) fn before_the_cut<D: Device>(rt: &HostRuntime, device: &mut D) -> anyhow::Result<()> {
     let heap = rt.alloc();
+    let mut store = TableStore::new(device)?;
     let rows = rows_of(heap, &TYPE_TABLE)?;
-    save_rows(device, &rows)?;
-    device.flush();
+    store.save(&rows)?;
+    store.flush();
     let count = rows.len();
     println!(rt; "wrote the type's table, {count} rows, to block {BLOCK} and flushed it")?;
     let changed = rows_of(heap, &CHANGED_TABLE)?;
-    save_rows(device, &changed)?;
-    let found = load_rows(heap, device)?;
+    store.save(&changed)?;
+    let found = store.load(heap)?;
     let count = found.len();
     println!(rt;
         "wrote a changed table to the same block and did not flush it; the block now reads as {count} rows:"
@@ -120,12 +66,9 @@ pub(crate) fn before_the_cut<D: Device>(rt: &HostRuntime, device: &mut D) -> any
 }
 
 // Reads the table back, and what lies between its rows.
-pub(crate) fn after_the_cut<D: Device>(rt: &HostRuntime, device: &mut D) -> anyhow::Result<()>
-    requires sound { D.Device.sound device.old }
-    requires wide { (32 ≤ (D.Device.meaning device.old).width) × ((D.Device.meaning device.old).width ≤ 40) }
-    ensures stays { D.Device.sound device.new }
-{
-    let rows = load_rows(rt.alloc(), device)?;
+pub(crate) fn after_the_cut<D: Device>(rt: &HostRuntime, device: &mut D) -> anyhow::Result<()> {
+    let mut store = TableStore::new(device)?;
+    let rows = store.load(rt.alloc())?;
     let count = rows.len();
     println!(rt;
         "opened the devices and built the pile again; block {BLOCK} reads as the flushed table, {count} rows:"

@@ -1,5 +1,7 @@
 ghost use Rattle.std.specs.Prelude.{◌≡◌, ℕ, ◌+◌, ◌≤◌, pos, negsuc, ◌≤ℤ◌};
 
+use thiserror::Error;
+
 // One row of a pitch table: a wind speed in hundredths of a metre per second, 0 to 9,999,
 // and a blade angle in hundredths of a degree, -9,000 to 9,000.
 #[derive(Clone, Copy, PartialEq, Eq, Debug)]
@@ -10,10 +12,10 @@ pub struct Row {
 }
 
 // Why two numbers are no row, by the refusal's number.
-#[derive(Clone, Copy, PartialEq, Eq, Debug)]
+#[derive(Clone, Copy, PartialEq, Eq, Debug, Drop, Error)]
 pub enum RowFault {
-    // The speed is above 9,999.
+    #[error("the speed is above 9,999")]
     Speed = 6,
-    // The angle is beyond 9,000 either way.
+    #[error("the angle is beyond 9,000 either way")]
     Angle = 7,
 }
