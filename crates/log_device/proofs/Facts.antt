@@ -104,7 +104,7 @@ pub admitted_at : (img : List ℕ) (n w k b len : ℕ) {width blocks : ℕ} → 
     → Ok tt ≡ admitted Log width blocks b len → (len ≡ w) × (b < n)
 admitted_at img n w k b len {width} {blocks} p q e =
     let m = log_of img n w k in
-    let t : (len ≡ w) × (b < blocks_of m) = let_in Log m b len (e ∙ ap (λ x. admitted Log x blocks b len) p ∙ ap (λ x. admitted Log w x b len) q) in
+    let t : (len ≡ w) × (b < blocks_of m) = let_in Log m b len p q e in
     (t.0, omega (arith, t.1, length-map-range_with_len (log_cell w (records w img k) (flushed_in img)) 0 n))
 
 pub read_at : (img : List ℕ) (n w k b len : ℕ) → b < n → len ≡ w → reading Log (log_of img n w k) b len ≡ Ok (last_of (records w img k) b (replicate w 0))

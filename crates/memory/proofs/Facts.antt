@@ -45,7 +45,7 @@ pub admitted_at : (cur per marks : List ℕ) (w b n : ℕ) {width blocks : ℕ} 
     → Ok tt ≡ admitted Memory width blocks b n → (n ≡ w) × (b < length marks)
 admitted_at cur per marks w b n {width} {blocks} p q e =
     let m = memory cur per marks w in
-    let t : (n ≡ w) × (b < blocks_of m) = let_in Memory m b n (e ∙ ap (λ x. admitted Memory x blocks b n) p ∙ ap (λ x. admitted Memory w x b n) q) in
+    let t : (n ≡ w) × (b < blocks_of m) = let_in Memory m b n p q e in
     (t.0, omega (arith, t.1, length-map-range_with_len (cell_of cur per marks w) 0 (length marks)))
 
 module _ (cur per marks : List ℕ) (w : ℕ) (s : Sound cur per marks w) where
