@@ -1,6 +1,9 @@
 -- The blocks of a grant, as they are found, taken and given back.
-use Rattle.std.proofs.Common.{◌≡◌, ℕ, suc, ◌+◌, ◌-◌, ◌<◌, Bool, true, false, cond, ltb, List, [], ◌∷◌, ◌++◌, length, get_or, sym, refl, ap, ◌∙◌, arith}
+use Rattle.std.proofs.Common.{◌≡◌, ℕ, suc, ◌+◌, ◌-◌, ◌<◌, Bool, true, false, cond, ltb, List, [], ◌∷◌, ◌++◌, length, get_or, drop, sym, refl, ap, ◌∙◌, ap₂, arith}
 use Rattle.std.proofs.lemmas.List.{append_assoc}
+use Rattle.std.specs.List.{enumerate_from}
+use Rattle.std.proofs.lemmas.List.{get_or-drop, get_or_read, length-drop}
+use Rattle.std.proofs.lemmas.List.FromFn.{length-enumerate_from, get_or-enumerate_from}
 use Rattle.counts.specs.Counts.{spare, free_blocks}
 
 -- block b, after those below it
@@ -24,3 +27,11 @@ next_block cs xs ys i lt e p =
     let n : b + 1 ≡ i + 1 + 2 = omega arith in
     e ∙ ap (λ r. xs ++ r) (one_on cs b (length cs) lt) ∙ sym (append_assoc xs (cond (ltb 0 (get_or cs b 0)) [] (b ∷ [])) R)
     ∙ ap (λ r. r ++ R) (sym p) ∙ ap (λ m. ys ++ spare (length cs - m) m cs) n
+
+-- where a walk over the counts from block 2 on is
+pub at_block : (cs : List ℕ) (k b n : ℕ) → (k < length (drop 2 (enumerate_from 0 cs))) × ((b, n) ≡ get_or (drop 2 (enumerate_from 0 cs)) k (b, n)) → (k + 2 < length cs) × (b ≡ k + 2) × (n ≡ get_or cs (k + 2) 0)
+at_block cs k b n h =
+    let lt : k + 2 < length cs = omega (arith, h.0, length-drop 2 (enumerate_from 0 cs), length-enumerate_from 0 cs) in
+    let e : (b, n) ≡ (k + 2, get_or cs (k + 2) n)
+    = h.1 ∙ get_or-drop 2 (enumerate_from 0 cs) k (b, n) ∙ get_or-enumerate_from 0 cs (2 + k) (b, n) (omega arith) ∙ ap₂ (λ (i j : ℕ). (i, get_or cs j n)) (omega arith) (omega arith) in
+    (lt, ap (λ (p : ℕ × ℕ). p.0) e, get_or_read cs (k + 2) n lt (ap (λ (p : ℕ × ℕ). p.1) e) 0)

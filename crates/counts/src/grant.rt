@@ -27,17 +27,17 @@ impl Grant {
         requires { (n ≤ 11) × ((2 ≤ vec_len counts.now.of) × (vec_len counts.now.of ≤ 4096)) }
         ensures { result ≡ lowest_free n counts.now.of.items }
     {
-        let mut blocks = ArrayVec::new();
-        for (i, count) in counts.of[2..].iter().enumerate() {
-            if blocks.len() == n {
-                return Some(Grant { blocks });
+        let mut found = ArrayVec::new();
+        for (block, count) in counts.of.iter().enumerate().skip(2) {
+            if found.len() == n {
+                return Some(Grant { blocks: found });
             }
             if *count == 0 {
-                blocks.push(i as u32 + 2);
+                found.push(block as u32);
             }
         }
-        if blocks.len() == n {
-            Some(Grant { blocks })
+        if found.len() == n {
+            Some(Grant { blocks: found })
         } else {
             None
         }

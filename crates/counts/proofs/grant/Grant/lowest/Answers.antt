@@ -1,31 +1,40 @@
-use Rattle.std.proofs.Common.{◌≡◌, ℕ, ◌+◌, ◌-◌, ◌<◌, cond, List, [], ◌∷◌, ◌++◌, length, get_or, take, drop, vec_items, sym, ap, ◌∙◌, arith, length-drop}
-use Rattle.std.proofs.lemmas.List.{get_or-take, get_or-drop, length-take-le, append-nil}
+use Rattle.std.proofs.Common.{ℕ, ◌+◌, ◌-◌, Bool, cond, List, [], ◌∷◌, ◌++◌, length, get_or, vec_items, sym, ap, ◌∙◌, arith, rules}
+use Rattle.std.proofs.lemmas.List.{length_push, append-nil}
 use Rattle.std.proofs.lemmas.Bool.{le-ltb, lt-ltb}
-use Rattle.counts.proofs.Granting.{next_block}
+use Rattle.std.proofs.lemmas.Iterator.{YieldsList-from_slice}
+use Rattle.std.proofs.lemmas.Iterator.Adapters.{YieldsList-from_skip}
+use Rattle.std.proofs.lemmas.Iterator.Consumers.{YieldsList-from_enumerate, YieldsList-turn}
+use Rattle.counts.specs.Counts.{spare}
+use Rattle.counts.proofs.Granting.{next_block, at_block}
 use Rattle.counts.proofs.grant.Grant.lowest.Goals as goal
-use Rattle.counts.proofs.grant.Grant.lowest.Goals.{then-count-eq0, else-count-eq0}
 
-pub loop-i-preserved : goal.loop-i-preserved
-loop-i-preserved c =
+pub loop-block-preserved-then-count-eq0 : goal.loop-block-preserved-then-count-eq0
+loop-block-preserved-then-count-eq0 c =
     let cs : List ℕ = vec_items c.args.counts.now.of in
-    let ds : List ℕ = c.deref.result.now in
-    let i = c.loop-i.i in
-    let xs : List ℕ = c.loop-i.blocks.items in
-    let part : List ℕ = take (length ds - 2) (drop 2 ds) in
-    let same : length ds ≡ length cs = ap length c.deref.ensures.value in
-    let long : length part ≡ length ds - 2 = length-take-le (length ds - 2) (drop 2 ds) (omega (arith, length-drop 2 ds)) in
-    let lt : i + 2 < length cs = omega (arith, c.loop-i-test.true) in
-    let here : get_or part i 0 ≡ get_or cs (i + 2) 0
-    = get_or-take (length ds - 2) (drop 2 ds) i 0 (omega arith) ∙ get_or-drop 2 ds i 0 ∙ ap (λ n. get_or ds n 0) (omega arith) ∙ ap (λ zs. get_or zs (i + 2) 0) c.deref.ensures.value in
-    elim c.if-count-eq0.branch [
-      | then-count-eq0 w ↦ record {
-        few = omega (arith, ap (λ v. length v.items) w.blocks-is, w.push.ensures.len, c.loop-i.invariant.few, c.if-len-n.false);
-        these = next_block cs xs c.if-count-eq0.blocks.items i lt c.loop-i.invariant.these
-            (ap (λ v. v.items) w.blocks-is ∙ w.push.ensures.items ∙ ap (λ t. xs ++ cond t [] ((i + 2) ∷ [])) (sym (le-ltb 0 (get_or cs (i + 2) 0) (omega (arith, here, w.if-count-eq0.true)))));
-      }
-      | else-count-eq0 w ↦ record {
-        few = omega (arith, ap (λ v. length v.items) w.blocks-is, c.loop-i.invariant.few);
-        these = next_block cs xs c.if-count-eq0.blocks.items i lt c.loop-i.invariant.these
-            (ap (λ v. v.items) w.blocks-is ∙ sym (append-nil xs) ∙ ap (λ t. xs ++ cond t [] ((i + 2) ∷ [])) (sym (lt-ltb 0 (get_or cs (i + 2) 0) (omega (arith, here, w.if-count-eq0.false)))));
-      }
-    ]
+    let k = length c.loop-block.yielded in
+    let xs : List ℕ = c.loop-block.found.items in
+    let t = YieldsList-turn (YieldsList-from_skip 2 (YieldsList-from_enumerate (YieldsList-from_slice cs cc) (cc)) (cc)) c.loop-block.yielded _ c.loop-block.yielded_by _ _ (c.in-Some.block, c.in-Some.count) c.in-Some.is c.next.ensures.steps in
+    let h = at_block cs k c.in-Some.block c.in-Some.count.now t in
+    record {
+      can = search rules;
+      ends = search rules;
+      few = omega (arith, c.push.ensures.len, c.loop-block.invariant.few, c.if-len-n.false);
+      these = next_block cs xs c.push.new.self.items k h.0 c.loop-block.invariant.these
+          (c.push.ensures.items ∙ ap (λ (b : ℕ). xs ++ b ∷ []) h.1 ∙ ap (λ (t : Bool). xs ++ cond t [] ((k + 2) ∷ [])) (sym (le-ltb 0 (get_or cs (k + 2) 0) (omega (arith, h.2, c.if-count-eq0.true)))))
+          ∙ ap (λ (m : ℕ). c.push.new.self.items ++ spare (length cs - (m + 2)) (m + 2) cs) (sym (length_push c.loop-block.yielded (c.in-Some.block, c.in-Some.count)));
+    }
+
+pub loop-block-preserved : goal.loop-block-preserved
+loop-block-preserved c =
+    let cs : List ℕ = vec_items c.args.counts.now.of in
+    let k = length c.loop-block.yielded in
+    let xs : List ℕ = c.loop-block.found.items in
+    let t = YieldsList-turn (YieldsList-from_skip 2 (YieldsList-from_enumerate (YieldsList-from_slice cs cc) (cc)) (cc)) c.loop-block.yielded _ c.loop-block.yielded_by _ _ (c.in-Some.block, c.in-Some.count) c.in-Some.is c.next.ensures.steps in
+    let h = at_block cs k c.in-Some.block c.in-Some.count.now t in
+    record {
+      can = search rules;
+      ends = search rules;
+      few = c.loop-block.invariant.few;
+      these = next_block cs xs xs k h.0 c.loop-block.invariant.these (sym (append-nil xs) ∙ ap (λ (t : Bool). xs ++ cond t [] ((k + 2) ∷ [])) (sym (lt-ltb 0 (get_or cs (k + 2) 0) (omega (arith, h.2, c.if-count-eq0.false)))))
+          ∙ ap (λ (m : ℕ). xs ++ spare (length cs - (m + 2)) (m + 2) cs) (sym (length_push c.loop-block.yielded (c.in-Some.block, c.in-Some.count)));
+    }
