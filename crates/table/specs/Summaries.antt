@@ -1,13 +1,13 @@
 -- What three summaries say of rows: how many there are, the lowest and the highest angle, and the sum of the angles.
 use mathlib.Core.HLevel.{is_prop→PathP}
-use Rattle.std.specs.Prelude.{◌≡◌, ℕ, ◌+◌, ◌%◌, ◌^◌, ◌<◌, ℤ, pos, ◌+ℤ◌, FitsSigned, refl}
+use Rattle.std.specs.Prelude.{◌≡◌, ℕ, ◌+◌, ◌%◌, ◌^◌, ◌<◌, ℤ, pos, ◌+ℤ◌, FitsSigned, Some, None, Option, refl}
 use Rattle.std.specs.Int.{w32, int_min, int_max, int_wrap}
 use Rattle.std.specs.Coded.{le_prop}
 use Rattle.std.proofs.Common.{sym, ap, ap₂, ◌∙◌, arith}
 use Rattle.std.proofs.lemmas.Int.{ints, clamps, SFits-int_wrap, int_wrap_fits, int_wrap-add_left, int_wrap-add_right}
 use Rattle.table.specs.declared.kinds.Count.{Count}
+use Rattle.table.specs.declared.kinds.Extent.{Extent}
 use Rattle.table.specs.declared.kinds.Span.{Span}
-use Rattle.table.specs.declared.kinds.Span.TheVariants.{Empty, Angles}
 use Rattle.table.specs.declared.kinds.Sum.{Sum}
 
 pub below : (n : ℕ) → n % 2 ^ 32 < 2 ^ 32
@@ -24,14 +24,20 @@ count_of s a = count 1
 abbrev pub counts : Count → Count → Count
 counts x y = count (x.rows + y.rows)
 
+abbrev pub span : Option Extent → Span
+span e = record { extent = e }
+
 -- one row's angle is the lowest and the highest
 abbrev pub span_of : ℕ → ℤ → Span
-span_of s a = Angles a a
+span_of s a = span (Some (record { lowest = a; highest = a }))
+
+abbrev pub extents : Option Extent → Option Extent → Option Extent
+extents None y = y
+extents (Some a) None = Some a
+extents (Some a) (Some b) = Some (record { lowest = int_min a.lowest b.lowest; highest = int_max a.highest b.highest })
 
 abbrev pub spans : Span → Span → Span
-spans Empty y = y
-spans (Angles a b) Empty = Angles a b
-spans (Angles a b) (Angles c d) = Angles (int_min a c) (int_max b d)
+spans x y = span (extents x.extent y.extent)
 
 -- the number z, wrapped to signed 32 bits
 abbrev pub sum : ℤ → Sum
@@ -56,18 +62,27 @@ count_last x = count_same _ _ (omega (arith, x.fits))
 pub count_assoc : (x y z : Count) → counts (counts x y) z ≡ counts x (counts y z)
 count_assoc x y z = count_same _ _ (omega arith)
 
-pub span_first : (x : Span) → spans Empty x ≡ x
+pub span_first : (x : Span) → spans (span None) x ≡ x
 span_first x = refl
 
-pub span_last : (x : Span) → spans x Empty ≡ x
-span_last Empty = refl
-span_last (Angles a b) = refl
+pub span_last : (x : Span) → spans x (span None) ≡ x
+span_last x = ap span (last x.extent)
+  where
+    last : (e : Option Extent) → extents e None ≡ e
+    last None = refl
+    last (Some a) = refl
 
 pub span_assoc : (x y z : Span) → spans (spans x y) z ≡ spans x (spans y z)
-span_assoc Empty y z = refl
-span_assoc (Angles a b) Empty z = refl
-span_assoc (Angles a b) (Angles c d) Empty = refl
-span_assoc (Angles a b) (Angles c d) (Angles e f) = ap₂ Angles (omega (arith, ints, clamps)) (omega (arith, ints, clamps))
+span_assoc x y z = ap span (go x.extent y.extent z.extent)
+  where
+    both : ℤ → ℤ → Option Extent
+    both a b = Some (record { lowest = a; highest = b })
+
+    go : (x y z : Option Extent) → extents (extents x y) z ≡ extents x (extents y z)
+    go None y z = refl
+    go (Some a) None z = refl
+    go (Some a) (Some b) None = refl
+    go (Some a) (Some b) (Some c) = ap₂ both (omega (arith, ints, clamps)) (omega (arith, ints, clamps))
 
 pub sum_same : (x y : Sum) → x.angles ≡ y.angles → x ≡ y
 sum_same x y e j = record {

@@ -8,11 +8,17 @@ pub struct Count {
     ghost fits: { rows < 2 ^ 32 },
 }
 
-// The lowest and the highest angle, if there is a row.
+// The lowest and the highest angle of some rows.
 #[derive(Clone, Copy, PartialEq, Eq, Debug)]
-pub enum Span {
-    Empty,
-    Angles { lowest: i32, highest: i32 },
+pub struct Extent {
+    pub lowest: i32,
+    pub highest: i32,
+}
+
+// The extent of the rows, if there is a row.
+#[derive(Clone, Copy, PartialEq, Eq, Debug)]
+pub struct Span {
+    pub extent: Option<Extent>,
 }
 
 // The sum of the angles, wrapped to signed 32 bits.

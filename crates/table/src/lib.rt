@@ -10,7 +10,7 @@ mod summary;
 mod summing;
 
 pub use angle::{angle_at, angle_between, angle_by};
-pub use kinds::{Count, Span, Sum};
+pub use kinds::{Count, Extent, Span, Sum};
 pub use pair::Pair;
 pub use row::{Row, RowFault};
 pub use summary::Summary;
@@ -54,15 +54,15 @@ mod tests {
         let rows = two_rows();
         assert!(rt; summary_of::<Count>(&rows).rows == 2);
         assert!(rt;
-            summary_of::<Span>(&rows)
-                == Span::Angles {
+            summary_of::<Span>(&rows).extent
+                == Some(Extent {
                     lowest: -100,
                     highest: 250
-                }
+                })
         );
         assert!(rt; summary_of::<Sum>(&rows).angles == 150);
         assert!(rt; summary_of::<Count>(&[]).rows == 0);
-        assert!(rt; summary_of::<Span>(&[]) == Span::Empty);
+        assert!(rt; summary_of::<Span>(&[]).extent == None);
         assert!(rt; summary_of::<Sum>(&[]).angles == 0);
         assert!(rt;
             Pair::from(rows[0])

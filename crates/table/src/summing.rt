@@ -1,8 +1,7 @@
-ghost use Rattle.std.specs.Prelude.{◌≡◌, pos};
-ghost use Rattle.table.specs.Summaries.{count, count_of, counts, count_first, count_last, count_assoc, span_of, spans, span_first, span_last, span_assoc, sum, sum_of, sums, sum_first, sum_last, sum_assoc};
-ghost use Rattle.table.specs.declared.kinds.Span.TheVariants.{Empty};
+ghost use Rattle.std.specs.Prelude.{◌≡◌, pos, None};
+ghost use Rattle.table.specs.Summaries.{count, count_of, counts, count_first, count_last, count_assoc, span, span_of, spans, span_first, span_last, span_assoc, sum, sum_of, sums, sum_first, sum_last, sum_assoc};
 
-use super::kinds::{Count, Span, Sum};
+use super::kinds::{Count, Extent, Span, Sum};
 use super::row::Row;
 use super::summary::Summary;
 
@@ -35,37 +34,36 @@ impl Summary for Count {
 }
 
 impl Summary for Span {
-    ghost none = { Empty };
+    ghost none = { span None };
 
     ghost value_of = { span_of };
 
     ghost joined = { spans };
 
     fn empty() -> Span {
-        Span::Empty
+        Span { extent: None }
     }
 
     fn of_row(row: Row) -> Span {
-        Span::Angles {
-            lowest: row.angle,
-            highest: row.angle,
+        Span {
+            extent: Some(Extent {
+                lowest: row.angle,
+                highest: row.angle,
+            }),
         }
     }
 
     fn join(self, other: Span) -> Span {
-        match (self, other) {
-            (Span::Empty, other) => other,
-            (before, Span::Empty) => before,
-            (
-                Span::Angles { lowest, highest },
-                Span::Angles {
-                    lowest: low,
-                    highest: high,
-                },
-            ) => Span::Angles {
-                lowest: lowest.min(low),
-                highest: highest.max(high),
-            },
+        let (Some(one), Some(two)) = (self.extent, other.extent) else {
+            return Span {
+                extent: self.extent.or(other.extent),
+            };
+        };
+        Span {
+            extent: Some(Extent {
+                lowest: one.lowest.min(two.lowest),
+                highest: one.highest.max(two.highest),
+            }),
         }
     }
 
