@@ -1,7 +1,8 @@
 -- What a call does to the device and the counts, move by move.
 use Rattle.std.specs.Prelude.{◌≡◌, ℕ, suc, ◌+◌, ◌≤◌, List, [], ◌∷◌, length, slice_set}
-use Rattle.device.specs.Meaning.{Meaning, written}
+use Rattle.device.specs.Meaning.{Meaning, Lawful, blocks_of, written}
 use Rattle.page.specs.Block.{Block, block_at, kids_of, level_of, encode, Layout}
+use Rattle.page.specs.Io.{Wide}
 use Rattle.counts.specs.Counts.{one, occ, Counted, opened}
 
 -- opening: a reference to the block is given up for references to its children.
@@ -16,6 +17,12 @@ State = Meaning × List ℕ
 
 abbrev pub state_of : Meaning → List ℕ → State
 state_of m cs = (m, cs)
+
+-- what every store keeps: a device's rules, a width that a volume uses, a count for each block
+pub record Shaped (m : Meaning) (cs : List ℕ) : Type 0 where
+  pub lawful : Lawful m
+  pub wide : Wide m
+  pub sized : length cs ≡ blocks_of m
 
 abbrev pub step : Move → State → State
 step (opening x) q = (q.0, opened (kids_of (block_at q.0 x)) x q.1)

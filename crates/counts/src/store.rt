@@ -1,15 +1,17 @@
 // A device whose tree blocks are counted by their references.
-ghost use Rattle.std.specs.Prelude.{◌≡◌, ℕ, ◌+◌, ◌-◌, ◌<◌, ◌≤◌, true, [], ◌∷◌, length, is_some, Some, vec_len, slice_index};
-ghost use Rattle.device.specs.Meaning.{blocks_of};
+ghost use Rattle.std.specs.Prelude.{◌≡◌, ℕ, ◌+◌, ◌-◌, ◌<◌, ◌≤◌, ◌==◌, true, [], ◌∷◌, length, is_some, Some, vec_len, slice_index};
+ghost use Rattle.device.specs.Meaning.{blocks_of, reading};
 ghost use Rattle.page.specs.Block.{block_at};
-ghost use Rattle.page.specs.Io.{Wide};
+ghost use Rattle.page.specs.Io.{Wide, ReadAs};
 ghost use Rattle.page.specs.View.{view};
-ghost use Rattle.counts.specs.Moves.{opening, linking, step, Owned, Held, Dropped};
+ghost use Rattle.counts.specs.Keeping.{retained};
+ghost use Rattle.counts.specs.Moves.{opening, linking, step, Shaped, Owned, Held, Dropped};
 
 use super::Counts;
-use device::Device;
+use device::{Device, DeviceFault};
 use page::io::{read_block, write_block};
 use page::page::Page;
+use page::stored::Stored;
 use std::marker::Model;
 
 // A device of a width that a volume uses, and as many counts as it has blocks.
@@ -51,13 +53,40 @@ impl<D: Device> Store<D> {
         (device, counts)
     }
 
+    // The number of blocks, and what every store keeps.
+    pub fn blocks(&self) -> u32
+        ensures blocks { result ≡ blocks_of self.now.0 }
+        ensures shape { Shaped self.now.0 self.now.1 }
+    {
+        self.device.blocks()
+    }
+
+    // What a block holds, if it holds a value.
+    pub fn read<T: Stored>(&mut self, block: u32) -> Result<Option<T>, DeviceFault>
+        ensures kept { self.new ≡ self.old }
+        ensures answer { ReadAs T.Stored.holds (reading D.Device.code self.old.0 block self.old.0.width) result }
+    {
+        read_block(&mut self.device, block)
+    }
+
+    // One reference more to a block; whether it is the first.
+    pub fn retain(&mut self, block: u32) -> bool
+        requires within { block < blocks_of self.old.0 }
+        requires room { slice_index self.old.1 block < 65535 }
+        ensures first { result ≡ (slice_index self.old.1 block == 0) }
+        ensures kept { self.new.0 ≡ self.old.0 }
+        ensures counts { self.new.1 ≡ retained block self.old.1 }
+    {
+        self.counts.retain(block)
+    }
+
     // The page of a block that holds one.
     pub fn read_page(&mut self, block: u32) -> Page
         requires { is_some (block_at self.old.0 block) ≡ true }
         ensures kept { self.new ≡ self.old }
         ensures page { block_at self.old.0 block ≡ Some (view result) }
     {
-        read_block(&mut self.device, block).unwrap().unwrap()
+        self.read(block).unwrap().unwrap()
     }
 
     // Gives up a reference to a block for references to its children.

@@ -73,7 +73,7 @@ impl Stored for Slot {
 impl Slot {
     ghost use Rattle.std.specs.Prelude.{◌≡◌, ◌≤◌, length};
     ghost use Rattle.std.specs.Option.{option_map};
-    ghost use Rattle.page.specs.Slot.{slot_read, every, rooted};
+    ghost use Rattle.page.specs.Slot.{slot_read, slot_stands, every, rooted};
     ghost use Rattle.page.specs.View.{slot_of, root_of};
 
     // Whether each clone's root stands, on a device of so many blocks.
@@ -83,16 +83,18 @@ impl Slot {
         self.places.iter().all(|place| is_rooted(*place, blocks))
     }
 
-    // The slot that the words of a block hold, if they hold one; `blocks` is how many blocks there are.
+    // Whether the slot may stand in a block: its parity is the block's, and each root is one; `blocks` is how many blocks there are.
+    pub fn stands(&self, blocks: u32, block: u32) -> bool
+        ensures { result ≡ slot_stands blocks block (slot_of self.now) }
+    {
+        self.generation % 2 == block && self.is_rooted(blocks)
+    }
+
+    // The slot that the words of a block hold, if they hold one.
     pub fn read(blocks: u32, block: u32, words: &[u32]) -> Option<Slot>
         requires wide { (32 ≤ length words.now) × (length words.now ≤ 40) }
         ensures { option_map slot_of result ≡ slot_read blocks block words.now }
     {
-        let slot = Slot::decode(words)?;
-        if slot.generation % 2 == block && slot.is_rooted(blocks) {
-            Some(slot)
-        } else {
-            None
-        }
+        Slot::decode(words).filter(|slot| slot.stands(blocks, block))
     }
 }
