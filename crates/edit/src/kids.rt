@@ -17,13 +17,13 @@ pub fn part_for(child: &Page, speed: u32) -> Page
     ensures level { result.level ≡ child.now.level }
     ensures these { entries result ≡ chosen speed (entries child.now) }
 {
-    let len = child.entries.len();
     if !child.entries.is_full() {
-        return child.part(0..len);
+        return Page::new(child.level, &child.entries);
     }
-    let upper = child.part(HALF..len);
+    let upper = child.part(HALF..child.entries.len());
     if speed < upper.first_speed() {
-        return child.part(0..HALF);
+        child.part(0..HALF)
+    } else {
+        upper
     }
-    upper
 }

@@ -16,7 +16,6 @@ ghost use Rattle.edit.specs.Able.{Open, Able, Ready, Made};
 
 mod kids;
 
-use arrayvec::ArrayVec;
 use counts::{Grant, Store};
 use device::Device;
 use kids::{HALF, Kids, part_for};
@@ -61,30 +60,29 @@ fn link_kids<D: Device>(
     ensures state { store.new ≡ run (links child.now.level (placed (slice_index grant.old 0) (slice_index grant.old 1) (parted speed key (entries child.now) (entries made.now)))) store.old }
     ensures grant { grant.new ≡ drop 2 grant.old }
 {
-    let left = grant.take();
-    let mut kids = ArrayVec::new();
-    kids.push(Entry {
+    let left = Entry {
         speed: key,
-        value: left,
-    });
+        value: grant.take(),
+    };
     if !child.entries.is_full() {
         grant.give_back();
-        store.link(left, made);
+        store.link(left.value, made);
+        let mut kids = Kids::new();
+        kids.push(left);
         return kids;
     }
-    let right = grant.take();
     let upper = child.part(HALF..child.entries.len());
-    let sep = upper.first_speed();
-    kids.push(Entry {
-        speed: sep,
-        value: right,
-    });
-    if speed < sep {
-        link_two(store, left, right, made, &upper);
+    let right = Entry {
+        speed: upper.first_speed(),
+        value: grant.take(),
+    };
+    let kids = Kids::from([left, right]);
+    if speed < right.speed {
+        link_two(store, left.value, right.value, made, &upper);
         return kids;
     }
     let lower = child.part(0..HALF);
-    link_two(store, left, right, &lower, made);
+    link_two(store, left.value, right.value, &lower, made);
     kids
 }
 
