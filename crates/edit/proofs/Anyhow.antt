@@ -1,5 +1,5 @@
 -- One level of put where the level is not known to be above 0, and how many writes it makes.
-use Rattle.std.proofs.Common.{◌≡◌, ℕ, zero, suc, ◌+◌, ◌*◌, ◌<◌, ◌≤◌, Bool, true, false, cond, eqb, ltb, List, [], ◌∷◌, ◌++◌, length, get_or, take, drop, Some, sym, refl, ap, ◌∙◌, subst, ap₂, not-suc-le-zero, arith}
+use Rattle.std.proofs.Common.{◌≡◌, ℕ, zero, suc, ◌+◌, ◌*◌, ◌<◌, ◌≤◌, Bool, true, false, cond, eqb, ltb, List, [], ◌∷◌, ◌++◌, length, get_or, take, drop, Some, sym, refl, ap, ◌∙◌, subst, ap₂, not-suc-le-zero, arith, length-drop}
 use Rattle.std.proofs.lemmas.List.{get_or-drop}
 use Rattle.device.specs.Meaning.{Meaning}
 use Rattle.tree.specs.Node.{ins, first, ahead, map_e}
@@ -66,6 +66,7 @@ pub record Parts (q q₁ : State) (b s : ℕ) (child part : Block) : Type 0 wher
 
 -- what linking needs, once the part is made anew
 pub record Linkable (q : State) (gs : List ℕ) (n child made : Block) : Type 0 where
+  pub two : 2 ≤ length gs
   pub wide : 32 ≤ q.0.width
   pub few : length q.1 ≤ 4096
   pub left : 2 ≤ q.0.left
@@ -148,8 +149,8 @@ module _ (m : Meaning) (cs gs : List ℕ) (n : Block) (s : ℕ) where
         right_is : (l : ℕ) (es : List (ℕ × Tree ℕ ℕ l)) → Ready m cs gs n s (suc l) es → get_or hs 1 0 ≡ get_or gs (2 * l + 1) 0
         right_is l es p = place gs hs (2 * part.level) 1 (2 * l + 1) taken (omega (arith, part_level l es p))
 
-        pub linkable : Able m cs gs n s → Linkable q₂ hs n child made
-        linkable o = go o.l o.es o.ready
+        pub linkable : 2 * n.level ≤ length gs → Able m cs gs n s → Linkable q₂ hs n child made
+        linkable enough o = go o.l o.es o.ready
           where
             go : (l : ℕ) (es : List (ℕ × Pay ℕ ℕ l)) → Ready m cs gs n s l es → Linkable q₂ hs n child made
             go zero es p = absurd (C.above (ap (λ (x : Block). x.level) p.is))
@@ -164,6 +165,7 @@ module _ (m : Meaning) (cs gs : List ℕ) (n : Block) (s : ℕ) where
                 let x : get_or hs 0 0 ≡ get_or gs (2 * l) 0 = left_is l es p in
                 let y : get_or hs 1 0 ≡ get_or gs (2 * l + 1) 0 = right_is l es p in
                 record {
+                  two = omega (arith, ap length taken ∙ length-drop (2 * part.level) gs, part_level l es p, ap (λ (x : Block). x.level) p.is, enough);
                   wide = omega (arith, r₁.width, r₂.width, p.wide.0);
                   few = omega (arith, r₁.counts, r₂.counts, p.few);
                   left = omega (arith, r₁.left, r₂.left, moves_writes gs s a l (chosen s t.1), p.left);

@@ -1,6 +1,6 @@
 -- A tree of one empty leaf.
-use Rattle.std.proofs.Common.{◌≡◌, ℕ, ◌+◌, ◌<◌, List, [], ◌∷◌, length, get_or, sym, ap, ◌∙◌, subst, ap₂, arith}
-use Rattle.device.specs.Meaning.{Meaning, Cell, blocks_of, current_at, written}
+use Rattle.std.proofs.Common.{◌≡◌, ℕ, ◌+◌, List, [], ◌∷◌, get_or, sym, ap, ◌∙◌, subst, ap₂, arith}
+use Rattle.device.specs.Meaning.{Meaning, Cell, current_at, written}
 use Rattle.device.proofs.Choices.{write_at}
 use Rattle.page.specs.Block.{Block, block_at, block_in, encode, Layout}
 use Rattle.page.proofs.Exact.{back}

@@ -1,5 +1,5 @@
 -- What stands for a child.
-use Rattle.std.proofs.Common.{◌≡◌, ℕ, ltb, List, [], ◌∷◌, length, take, drop, refl}
+use Rattle.std.proofs.Common.{◌≡◌, ℕ, ltb, List, [], ◌∷◌, length, drop, refl}
 use Rattle.std.proofs.lemmas.Bool.{eq-eqb, cond_both}
 use Rattle.tree.specs.Node.{first, map_e}
 use Rattle.edit.specs.Plan.{parted, placed, links}

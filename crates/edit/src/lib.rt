@@ -106,7 +106,7 @@ fn put_in<D: Device>(store: &mut Store<D>, grant: &mut Grant, page: &Page, row: 
 }
 
 // Puts a row into a tree: the tree that results is held in its place. A full root is split, and gets a new root above.
-pub fn put_tree<D: Device>(store: &mut Store<D>, root: Root, row: Entry, grant: Grant) -> Root
+pub fn put_tree<D: Device>(store: &mut Store<D>, root: Root, row: Entry, mut grant: Grant) -> Root
     requires editable { Editable store.old.0 store.old.1 (root.height, root.block) }
     requires granted { Granted (2 * root.height + 1) store.old.0 store.old.1 grant }
     requires row { (row.speed < 10000) × (row.value ≤ 18000) }
@@ -114,7 +114,6 @@ pub fn put_tree<D: Device>(store: &mut Store<D>, root: Root, row: Entry, grant: 
     ensures edited { Edited (puts row.speed row.value) (tree_at (current_at store.old.0) (root.height, root.block)) store.old.0 store.old.1 store.new.0 store.new.1 }
     ensures good { Good (blocks_of store.new.0) (current_at store.new.0) (result.height, result.block) }
 {
-    let mut grant = grant;
     let above = Page::new(
         root.height,
         &[Entry {
@@ -141,14 +140,13 @@ pub fn put_tree<D: Device>(store: &mut Store<D>, root: Root, row: Entry, grant: 
 }
 
 // Makes a tree of one leaf with no row, and holds it.
-pub fn create_tree<D: Device>(store: &mut Store<D>, grant: Grant) -> Root
+pub fn create_tree<D: Device>(store: &mut Store<D>, mut grant: Grant) -> Root
     requires counting { Counting store.old.0 store.old.1 }
     requires granted { Granted 1 store.old.0 store.old.1 grant }
     ensures root { (result.height, result.block) ≡ root_of (changed_on ℕ begin (free_blocks store.old.1) bare_tree) }
     ensures edited { Edited begin bare_tree store.old.0 store.old.1 store.new.0 store.new.1 }
     ensures good { Good (blocks_of store.new.0) (current_at store.new.0) (result.height, result.block) }
 {
-    let mut grant = grant;
     let block = grant.take();
     grant.end();
     let leaf = Page::new(0, &[]);

@@ -1,4 +1,4 @@
-use Rattle.std.proofs.Common.{◌≡◌, ℕ, suc, ◌+◌, ◌*◌, ◌<◌, ◌≤◌, List, ◌++◌, map, length, get_or, take, drop, sym, ap, ◌∙◌, ap₂, add-one, arith, length-drop, drop-drop}
+use Rattle.std.proofs.Common.{◌≡◌, ℕ, suc, ◌+◌, ◌*◌, ◌<◌, ◌≤◌, List, ◌++◌, map, length, get_or, take, drop, sym, ap, ◌∙◌, ap₂, add-one, arith, drop-drop}
 use Rattle.device.specs.Meaning.{Meaning}
 use Rattle.page.specs.View.{pair, view, entries}
 use Rattle.page.specs.declared.page.Entry.{Entry}
@@ -55,7 +55,7 @@ module _ (g : Over) (t : ℕ) (c : After-put_in-made g t) where
   P = record { there = c.open-child.ensures.page; level = c.part_for-part.ensures.level; these = c.part_for-part.ensures.these; state = c.open-child.ensures.state }
 
   link : Linkable c.put_in-made.new.store c.put_in-made.new.grant (view c.args.page.now) (view c.open-child.result) (view c.put_in-made.result)
-  link = linkable _ _ _ _ _ _ _ C _ _ _ P _ _ _ c.put_in-made.ensures.made _ c.put_in-made.ensures.grant c.requires.able
+  link = linkable _ _ _ _ _ _ _ C _ _ _ P _ _ _ c.put_in-made.ensures.made _ c.put_in-made.ensures.grant c.requires.enough c.requires.able
 
 pub link_kids-kids-requires : goal.link_kids-kids-requires
 link_kids-kids-requires g t c =
@@ -63,7 +63,7 @@ link_kids-kids-requires g t c =
     record {
       few = L.few;
       places = L.places;
-      two = omega (arith, ap length c.put_in-made.ensures.grant, length-drop (2 * c.part_for-part.result.level) c.args.grant.now, c.requires.enough, L.above, c.part_for-part.ensures.level);
+      two = L.two;
       left = L.left;
       level = (omega (arith, L.above, c.args.page.now.few.1), L.level);
       key = c.index-deref-i.result.small.0;

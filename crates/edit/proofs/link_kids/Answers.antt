@@ -22,6 +22,6 @@ pub returns-clause-kids : goal.returns-clause-kids
 returns-clause-kids g c =
     let left = ap (λ (gs : List ℕ). get_or gs 0 0) c.take.ensures in
     let right = ap (λ (gs : List ℕ). get_or gs 1 0) c.take.ensures ∙ ap (λ (gs : List ℕ). get_or gs 0 0) c.take-2.ensures in
-    let full = entries_length c.args.child.now ∙ search (rules, tests) in
+    let full : length (entries c.args.child.now) ≡ 15 = entries_length c.args.child.now ∙ search (rules, tests) in
     let upper : entries c.part-upper.result ≡ drop 7 (entries c.args.child.now) = grind (arith, common_steps) in
     ap (map pair) c.from-kids.ensures.0 ∙ two_kids _ _ _ _ _ _ _ _ _ (sym left) (sym right) (c.first_speed.ensures ∙ ap first upper) full

@@ -8,7 +8,7 @@ use Rattle.model.specs.TreeBlocks.{Tree, tree_at}
 use Rattle.edit.specs.Able.{Made}
 use Rattle.edit.proofs.Laying.{laid_out}
 use Rattle.edit.proofs.Anyhow.{next_place}
-use Rattle.edit.proofs.Trees.{Rooted, Topmost, low, top_ready, top_able, many, one_small, one_root, one_edited, link_able, more_root, more_edited}
+use Rattle.edit.proofs.Trees.{Rooted, Topmost, top_ready, top_able, many, one_small, one_root, one_edited, link_able, more_root, more_edited}
 use Rattle.edit.proofs.Editing.{whole, all_taken, rooted, good_put}
 use Rattle.edit.proofs.put_tree.Given.{Over}
 use Rattle.edit.proofs.put_tree.Goals.{After-put_in-made}
