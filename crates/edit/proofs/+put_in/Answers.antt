@@ -66,7 +66,6 @@ link_kids-kids-requires g t c =
       two = L.two;
       left = L.left;
       level = (omega (arith, L.above, c.args.page.now.few.1), L.level);
-      key = c.index-deref-i.result.small.0;
     }
 
 pub spliced-requires-clause-room : goal.spliced-requires-clause-room
