@@ -1,12 +1,13 @@
 -- The steps of the walk.
-use Rattle.std.proofs.Common.{◌≡◌, ℕ, zero, suc, ◌+◌, ◌-◌, ◌*◌, ◌<◌, ◌≤◌, Bool, true, false, cond, ◌&&◌, eqb, ltb, leb, List, [], ◌∷◌, length, get_or, drop, Some, None, Ok, Err, Option, sym, refl, ap, ◌∙◌, subst, ⊎_elim, arith}
+use Rattle.std.proofs.Common.{◌≡◌, ℕ, zero, suc, ◌+◌, ◌-◌, ◌*◌, ◌<◌, ◌≤◌, Bool, true, false, cond, ◌&&◌, eqb, ltb, leb, List, [], ◌∷◌, map, length, get_or, drop, Some, None, Ok, Err, Option, Result, sym, refl, ap, ◌∙◌, subst, ⊎_elim, arith}
 use Rattle.std.proofs.lemmas.Bool.{and_parts, ltb-true, eqb-true, cases_eq}
 use Rattle.std.proofs.lemmas.List.{length-map}
 use Rattle.std.specs.Option.{option_or}
 use Rattle.device.specs.Meaning.{Meaning, Content, blocks_of, current_at}
 use Rattle.page.specs.Block.{Block, block_at, kids_of, children}
 use Rattle.page.specs.Slot.{every}
-use Rattle.page.specs.View.{entries}
+use Rattle.page.specs.View.{pair, entries}
+use Rattle.page.specs.declared.page.Entry.{Entry}
 use Rattle.page.specs.declared.page.Page.{Page}
 use Rattle.tree.specs.Layout.{next}
 use Rattle.counts.specs.Counts.{occ, parents}
@@ -19,6 +20,7 @@ use Rattle.model.specs.Walk.{Fault, payable, among, fault_below, fault_at}
 use Rattle.mount.specs.declared.walk.Due.{Due}
 use Rattle.mount.specs.Due.{own_fault, first_fault, passes, Loaded}
 use Rattle.mount.specs.Tally.{along, tallied, kids, Room}
+use Rattle.mount.proofs.Lists.{drop_here}
 use Rattle.mount.proofs.Blocks.{split_fault, loaded_made, few}
 use Rattle.mount.proofs.Tally.{tallies, count_first}
 
@@ -117,7 +119,7 @@ module _ (m : Meaning) (d : Due) (p : Page) (es : List (ℕ × ℕ)) (ld : Loade
         modest = r.modest;
       })
 
-  pub child_in : (i s c : ℕ) (rest : List (ℕ × ℕ)) → 0 < d.level → drop i es ≡ (s, c) ∷ rest → c < blocks_of m
+  child_in : (i s c : ℕ) (rest : List (ℕ × ℕ)) → 0 < d.level → drop i es ≡ (s, c) ∷ rest → c < blocks_of m
   child_in i s c rest up e =
       let o = ap (every (payable (blocks_of m) d.level)) (sym e) ∙ payable_drop (blocks_of m) d.level i es (ap (every (payable (blocks_of m) d.level)) same ∙ (loaded_made m d p ld).pays) in
       payable_in (blocks_of m) d.level (s, c) up (and_parts (payable (blocks_of m) d.level (s, c)) (every (payable (blocks_of m) d.level) rest) o).0
@@ -155,6 +157,22 @@ module _ (m : Meaning) (d : Due) (p : Page) (es : List (ℕ × ℕ)) (ld : Loade
           ∙ ap (λ xs. cond (eqb (get_or cs d.block 0) 0) (along (tallied m (d.level - 1)) es xs) xs) ec
           ∙ ap (λ es. cond (eqb (get_or cs d.block 0) 0) (along (tallied m (d.level - 1)) es (retained d.block cs)) (retained d.block cs)) (sym entries_here)
           ∙ sym (split_tally m d.level d.block cs up)
+
+-- One turn of the loop over the entries xs of the page p: the child at entry i, e.
+pub record Turn (m : Meaning) (d : Due) (es : List (ℕ × ℕ)) (i : ℕ) (e : Entry) : Type 0 where
+  pub here : drop i es ≡ (e.speed, e.value) ∷ drop (i + 1) es
+  pub within : e.value < blocks_of m
+
+pub turn : (m : Meaning) (d : Due) (p : Page) (xs : List Entry) (i : ℕ) (e : Entry) → Loaded m d p → xs ≡ p.entries.items → 0 < d.level → e ≡ get_or xs i e → i < length xs → Turn m d (map pair xs) i e
+turn m d p xs i e ld same up is lt =
+    let q = drop_here pair xs i e is lt in
+    record { here = q; within = child_in m d p (map pair xs) ld (ap (map pair) same) i e.speed e.value (drop (i + 1) (map pair xs)) up q }
+
+-- what is answered for the child, walked on a device that means m, below the bound that was looked up in the page
+pub child_answer : (m mᵢ : Meaning) (d : Due) (p : Page) (xs : List Entry) (i high : ℕ) (e : Entry) (r : Result Unit Refusal) → xs ≡ p.entries.items → mᵢ ≡ m → high ≡ next d.high (drop (i + 1) (entries p))
+    → r ≡ passes d.clone (child_fault mᵢ d e.speed high e.value) → r ≡ passes d.clone (child_fault m d e.speed (next d.high (drop (i + 1) (map pair xs))) e.value)
+child_answer m mᵢ d p xs i high e r same kept up a =
+    a ∙ ap (λ m. passes d.clone (child_fault m d e.speed high e.value)) kept ∙ ap (λ u. passes d.clone (child_fault m d e.speed u e.value)) (up ∙ ap (λ xs. next d.high (drop (i + 1) (map pair xs))) (sym same))
 
 -- the next child's reference is due
 pub next_room : (m : Meaning) (cs : List ℕ) (es rest : List (ℕ × ℕ)) (s c : ℕ) → es ≡ (s, c) ∷ rest → Room m cs (kids es) → Room m cs (c ∷ [])
