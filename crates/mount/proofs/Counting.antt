@@ -10,6 +10,7 @@ use Rattle.counts.specs.Counts.{one, occ, parents, Counted}
 use Rattle.counts.specs.Keeping.{retained}
 use Rattle.counts.specs.Moves.{Shaped}
 use Rattle.counts.proofs.Parents.{one_same, one_other}
+use Rattle.counts.proofs.Opens.{occ_append, occ_le}
 use Rattle.model.specs.TreeBlocks.{top_level}
 use Rattle.model.specs.Walk.{least, fault_of}
 use Rattle.model.specs.World.{fresh}
@@ -17,11 +18,7 @@ use Rattle.model.specs.Reach.{roots_of, rootings}
 use Rattle.mount.specs.Tally.{Owing, tallied, Room, Fine}
 use Rattle.mount.specs.Counting.{place_walk, count_at, Counting, Ready}
 use Rattle.mount.proofs.Tally.{tallies, count_more}
-use Rattle.mount.proofs.Walking.{occ_le, count_small, passes_none}
-
-occ_append : (b : ℕ) (xs ys : List ℕ) → occ b (xs ++ ys) ≡ occ b xs + occ b ys
-occ_append b [] ys = omega arith
-occ_append b (x ∷ xs) ys = omega (arith, occ_append b xs ys)
+use Rattle.mount.proofs.Walking.{count_small, passes_none}
 
 parents_zero : (kids : ℕ → List ℕ) (n b : ℕ) → parents kids (replicate n 0) b ≡ 0
 parents_zero kids zero b = refl

@@ -1,10 +1,9 @@
 -- The steps of the walk.
-use Rattle.std.proofs.Common.{◌≡◌, ℕ, zero, suc, ◌+◌, ◌-◌, ◌*◌, ◌<◌, ◌≤◌, Bool, true, false, cond, ◌&&◌, eqb, ltb, leb, List, [], ◌∷◌, map, length, get_or, drop, Some, None, Ok, Err, Option, Result, sym, refl, ap, ◌∙◌, subst, ⊎_elim, arith}
-use Rattle.std.proofs.lemmas.Bool.{and_parts, ltb-true, eqb-true, cases_eq}
-use Rattle.std.proofs.lemmas.List.{length-map}
+use Rattle.std.proofs.Common.{◌≡◌, ℕ, zero, suc, ◌+◌, ◌-◌, ◌*◌, ◌<◌, ◌≤◌, Bool, true, false, cond, ◌&&◌, eqb, ltb, leb, List, [], ◌∷◌, map, length, get_or, drop, Some, None, Ok, Err, Option, Result, sym, refl, ap, ◌∙◌, subst, arith}
+use Rattle.std.proofs.lemmas.Bool.{and_parts, ltb-true, eqb-true}
 use Rattle.std.specs.Option.{option_or}
 use Rattle.device.specs.Meaning.{Meaning, Content, blocks_of, current_at}
-use Rattle.page.specs.Block.{Block, block_at, kids_of, children}
+use Rattle.page.specs.Block.{block_at, kids_of, children}
 use Rattle.page.specs.Slot.{every}
 use Rattle.page.specs.View.{pair, entries}
 use Rattle.page.specs.declared.page.Entry.{Entry}
@@ -13,7 +12,7 @@ use Rattle.tree.specs.Layout.{next}
 use Rattle.counts.specs.Counts.{occ, parents}
 use Rattle.counts.specs.Keeping.{retained}
 use Rattle.counts.specs.Moves.{Shaped}
-use Rattle.counts.proofs.Parents.{one_same, one_other}
+use Rattle.counts.proofs.Opens.{occ_le, few_kids}
 use Rattle.model.specs.declared.refusal.Refusal.{Refusal}
 use Rattle.model.specs.TreeBlocks.{entries_in}
 use Rattle.model.specs.Walk.{Fault, payable, among, fault_below, fault_at}
@@ -21,22 +20,10 @@ use Rattle.mount.specs.declared.walk.Due.{Due}
 use Rattle.mount.specs.Due.{own_fault, first_fault, passes, Loaded}
 use Rattle.mount.specs.Tally.{along, tallied, kids, Room}
 use Rattle.mount.proofs.Lists.{drop_here}
-use Rattle.mount.proofs.Blocks.{split_fault, loaded_made, few}
+use Rattle.mount.proofs.Blocks.{split_fault, loaded_made}
 use Rattle.mount.proofs.Tally.{tallies, count_first}
 
 -- Counts stay small.
-kids_few : (o : Option Block) → ((x : Block) → o ≡ Some x → length x.entries ≤ 15) → length (kids_of o) ≤ 15
-kids_few None h = omega arith
-kids_few (Some x) h = at x.level x.entries (h x refl)
-  where
-    at : (l : ℕ) (es : List (ℕ × ℕ)) → length es ≤ 15 → length (children l es) ≤ 15
-    at zero es h = omega arith
-    at (suc l) es h = omega (arith, length-map es (λ e. e.1))
-
-pub occ_le : (b : ℕ) (ks : List ℕ) → occ b ks ≤ length ks
-occ_le b [] = omega arith
-occ_le b (k ∷ ks) = ⊎_elim (λ e. omega (arith, one_same k b e, occ_le b ks)) (λ ne. omega (arith, one_other k b ne, occ_le b ks)) (cases_eq b k)
-
 parents_le : (kids : ℕ → List ℕ) (cs : List ℕ) (b : ℕ) → ((x : ℕ) → length (kids x) ≤ 15) → parents kids cs b ≤ 15 * length cs
 parents_le kids [] b h = omega arith
 parents_le kids (zero ∷ cs) b h = omega (arith, parents_le (λ j. kids (suc j)) cs b (λ x. h (suc x)))
@@ -44,7 +31,7 @@ parents_le kids (suc c ∷ cs) b h = omega (arith, occ_le b (kids 0), h 0, paren
 
 pub count_small : (m : Meaning) (cs due : List ℕ) (b : ℕ) → Shaped m cs → Room m cs due → get_or cs b 0 < 65535
 count_small m cs due b s r =
-    omega (arith, r.owing b, r.modest b, s.sized, s.lawful.few, parents_le (λ x. kids_of (block_at m x)) cs b (λ x. kids_few (block_at m x) (few m x)))
+    omega (arith, r.owing b, r.modest b, s.sized, s.lawful.few, parents_le (λ x. kids_of (block_at m x)) cs b (few_kids m))
 
 -- Answers.
 pub passes_none : (k : ℕ) (o : Option Fault) → Ok tt ≡ passes k o → o ≡ None
