@@ -19,7 +19,7 @@ use Rattle.model.specs.Walk.{Fault, payable, among, fault_below, fault_at}
 use Rattle.mount.specs.declared.walk.Due.{Due}
 use Rattle.mount.specs.Due.{own_fault, first_fault, passes, Loaded}
 use Rattle.mount.specs.Tally.{along, tallied, kids, Room}
-use Rattle.mount.proofs.Lists.{drop_here}
+use Rattle.mount.proofs.Lists.{drop_here, every_at}
 use Rattle.mount.proofs.Blocks.{split_fault, loaded_made}
 use Rattle.mount.proofs.Tally.{tallies, count_first}
 
@@ -56,11 +56,6 @@ split_tally m (suc l) b cs h =
 kids_pos : (l : ℕ) (es : List (ℕ × ℕ)) → 0 < l → children l es ≡ kids es
 kids_pos zero es h = absurd (omega arith)
 kids_pos (suc l) es h = refl
-
-payable_drop : (n l i : ℕ) (es : List (ℕ × ℕ)) → every (payable n l) es ≡ true → every (payable n l) (drop i es) ≡ true
-payable_drop n l zero es h = h
-payable_drop n l (suc i) [] h = refl
-payable_drop n l (suc i) (e ∷ r) h = payable_drop n l i r (and_parts (payable n l e) (every (payable n l) r) h).1
 
 payable_in : (n l : ℕ) (e : ℕ × ℕ) → 0 < l → payable n l e ≡ true → e.1 < n
 payable_in n zero e h k = absurd (omega arith)
@@ -108,8 +103,8 @@ module _ (m : Meaning) (d : Due) (p : Page) (es : List (ℕ × ℕ)) (ld : Loade
 
   child_in : (i s c : ℕ) (rest : List (ℕ × ℕ)) → 0 < d.level → drop i es ≡ (s, c) ∷ rest → c < blocks_of m
   child_in i s c rest up e =
-      let o = ap (every (payable (blocks_of m) d.level)) (sym e) ∙ payable_drop (blocks_of m) d.level i es (ap (every (payable (blocks_of m) d.level)) same ∙ (loaded_made m d p ld).pays) in
-      payable_in (blocks_of m) d.level (s, c) up (and_parts (payable (blocks_of m) d.level (s, c)) (every (payable (blocks_of m) d.level) rest) o).0
+      let pays = payable (blocks_of m) d.level in
+      payable_in (blocks_of m) d.level (s, c) up (every_at pays i es rest (s, c) (ap (every pays) same ∙ (loaded_made m d p ld).pays) e)
 
   -- a child's fault is the first
   pub child_first : (i s c : ℕ) (rest : List (ℕ × ℕ)) (e : Refusal) → 0 < d.level → drop i es ≡ (s, c) ∷ rest
