@@ -29,13 +29,13 @@ at_zero zero b = refl
 at_zero (suc n) zero = refl
 at_zero (suc n) (suc b) = at_zero n b
 
-pub counting_none : (m : Meaning) (cs : List ℕ) (n : ℕ) → cs ≡ replicate n 0 → n ≡ blocks_of m → Counting m cs []
-counting_none m cs n e k =
+pub counting_none : (m : Meaning) (cs : List ℕ) → cs ≡ replicate (blocks_of m) 0 → Counting m cs []
+counting_none m cs e =
     subst (λ ds. Counting m ds []) (sym e)
     (record {
-      long = length-replicate n 0 ∙ k;
-      owing = λ b. omega (arith, at_zero n b, parents_zero (λ x. kids_of (block_at m x)) n b);
-      fine = λ x p. absurd (omega (arith, at_zero n x));
+      long = length-replicate (blocks_of m) 0;
+      owing = λ b. omega (arith, at_zero (blocks_of m) b, parents_zero (λ x. kids_of (block_at m x)) (blocks_of m) b);
+      fine = λ x p. absurd (omega (arith, at_zero (blocks_of m) x));
     })
 
 -- the roots so far and one more, each twice
