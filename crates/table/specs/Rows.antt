@@ -25,6 +25,10 @@ abbrev pub payload_of : ℤ → ℕ
 payload_of (pos n) = n + 9000
 payload_of (negsuc n) = 9000 - (n + 1)
 
+-- the angle that a stored word stands for
+abbrev pub angle_of : ℕ → ℤ
+angle_of p = cond (nat_lt p 9000) (negsuc (8999 - p)) (pos (p - 9000))
+
 abbrev pub fault_number : RowFault → ℕ
 fault_number Speed = 6
 fault_number Angle = 7

@@ -2,11 +2,18 @@
 #![tactic(auto)]
 
 mod angle;
+mod kinds;
 mod making;
+mod pair;
 mod row;
+mod summary;
+mod summing;
 
 pub use angle::{angle_at, angle_between, angle_by};
+pub use kinds::{Count, Span, Sum};
+pub use pair::Pair;
 pub use row::{Row, RowFault};
+pub use summary::Summary;
 
 #[cfg(test)]
 mod tests {
@@ -40,5 +47,48 @@ mod tests {
         assert!(rt; angle_at(&rows, 1_200) == Some(250));
         assert!(rt; angle_at(&rows, u32::MAX) == Some(250));
         assert!(rt; angle_at(&[], 800) == None);
+    }
+
+    #[test]
+    fn summaries_of_two_rows(rt: HostRuntime) {
+        let rows = two_rows();
+        assert!(rt; summary_of::<Count>(&rows).rows == 2);
+        assert!(rt;
+            summary_of::<Span>(&rows)
+                == Span::Angles {
+                    lowest: -100,
+                    highest: 250
+                }
+        );
+        assert!(rt; summary_of::<Sum>(&rows).angles == 150);
+        assert!(rt; summary_of::<Count>(&[]).rows == 0);
+        assert!(rt; summary_of::<Span>(&[]) == Span::Empty);
+        assert!(rt; summary_of::<Sum>(&[]).angles == 0);
+        assert!(rt;
+            Pair::from(rows[0])
+                == Pair {
+                    speed: 400,
+                    angle: -100
+                }
+        );
+        assert!(rt; Row::from_stored(400, rows[0].payload()) == rows[0]);
+    }
+
+    fn two_rows() -> [Row; 2] {
+        [
+            Row {
+                speed: 400,
+                angle: -100,
+            },
+            Row {
+                speed: 1_200,
+                angle: 250,
+            },
+        ]
+    }
+
+    fn summary_of<S: Summary + Copy>(rows: &[Row]) -> S {
+        rows.iter()
+            .fold(S::empty(), |joined, row| joined.join(S::of_row(*row)))
     }
 }

@@ -1,5 +1,5 @@
-ghost use Rattle.std.specs.Prelude.{◌≡◌};
-ghost use Rattle.table.specs.Rows.{checked_row, shown, payload_of, fault_number};
+ghost use Rattle.std.specs.Prelude.{◌≡◌, ◌≤◌};
+ghost use Rattle.table.specs.Rows.{pair_of, checked_row, shown, payload_of, angle_of, fault_number};
 
 use super::row::{Row, RowFault};
 
@@ -22,6 +22,19 @@ impl Row {
         ensures { result ≡ payload_of self.angle }
     {
         (self.angle + 9_000) as u32
+    }
+
+    // The row of a speed and a payload that a stored word holds.
+    pub fn from_stored(speed: u32, payload: u32) -> Row
+        requires speed { speed ≤ 9999 }
+        requires payload { payload ≤ 18000 }
+        ensures row { pair_of result ≡ (speed, angle_of payload) }
+        ensures back { payload_of result.angle ≡ payload }
+    {
+        Row {
+            speed,
+            angle: payload as i32 - 9_000,
+        }
     }
 }
 
