@@ -1,9 +1,7 @@
 -- The blocks of a grant, as they are found, taken and given back.
-use Rattle.std.proofs.Common.{◌≡◌, ℕ, suc, ◌+◌, ◌-◌, ◌<◌, ◌≤◌, Bool, true, false, cond, ltb, List, [], ◌∷◌, ◌++◌, length, get_or, take, Some, None, sym, refl, ap, ◌∙◌, arith}
-use Rattle.std.proofs.lemmas.List.{length-append, take-append-le, take_all}
-use Rattle.std.proofs.lemmas.Bool.{le-leb, lt-leb}
+use Rattle.std.proofs.Common.{◌≡◌, ℕ, suc, ◌+◌, ◌-◌, ◌<◌, Bool, true, false, cond, ltb, List, [], ◌∷◌, ◌++◌, length, get_or, sym, refl, ap, ◌∙◌, arith}
+use Rattle.std.proofs.lemmas.List.{append_assoc}
 use Rattle.counts.specs.Counts.{spare, free_blocks}
-use Rattle.counts.specs.Grants.{lowest_free}
 
 -- block b, after those below it
 pub one_on : (cs : List ℕ) (b N : ℕ) → b < N → spare (N - b) b cs ≡ cond (ltb 0 (get_or cs b 0)) [] (b ∷ []) ++ spare (N - (b + 1)) (b + 1) cs
@@ -17,14 +15,12 @@ one_on cs b N lt =
     go true = refl
     go false = refl
 
--- enough are found
-pub full : (cs xs rest : List ℕ) (n : ℕ) → length xs ≡ n → free_blocks cs ≡ xs ++ rest → Some xs ≡ lowest_free n cs
-full cs xs rest n e f =
-    let long : n ≤ length (free_blocks cs) = omega (arith, ap length f, length-append xs rest) in
-    let t = le-leb n (length (free_blocks cs)) long in
-    let front : take n (free_blocks cs) ≡ xs = ap (take n) f ∙ take-append-le n xs rest (omega (arith, e)) ∙ take_all n xs (omega (arith, e)) in
-    rw t (ap Some (sym front))
-
--- all are seen, and they are too few
-pub scarce : (cs xs : List ℕ) (n : ℕ) → length xs < n → free_blocks cs ≡ xs → None ≡ lowest_free n cs
-scarce cs xs n h f = let t = lt-leb n (length (free_blocks cs)) (omega (arith, ap length f)) in rw t
+-- the next block, seen
+pub next_block : (cs xs ys : List ℕ) (i : ℕ) → i + 2 < length cs → free_blocks cs ≡ xs ++ spare (length cs - (i + 2)) (i + 2) cs → ys ≡ xs ++ cond (ltb 0 (get_or cs (i + 2) 0)) [] ((i + 2) ∷ [])
+    → free_blocks cs ≡ ys ++ spare (length cs - (i + 1 + 2)) (i + 1 + 2) cs
+next_block cs xs ys i lt e p =
+    let b : ℕ = i + 2 in
+    let R : List ℕ = spare (length cs - (b + 1)) (b + 1) cs in
+    let n : b + 1 ≡ i + 1 + 2 = omega arith in
+    e ∙ ap (λ r. xs ++ r) (one_on cs b (length cs) lt) ∙ sym (append_assoc xs (cond (ltb 0 (get_or cs b 0)) [] (b ∷ [])) R)
+    ∙ ap (λ r. r ++ R) (sym p) ∙ ap (λ m. ys ++ spare (length cs - m) m cs) n

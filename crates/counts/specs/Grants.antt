@@ -1,11 +1,6 @@
 -- The blocks of a grant, and when there is one.
-use Rattle.std.specs.Prelude.{ℕ, cond, List, length, take, drop, Some, None, Option, nat_le}
+use Rattle.std.specs.Prelude.{ℕ, cond, List, length, take, Some, None, Option, nat_le}
 use Rattle.counts.specs.Counts.{free_blocks}
-use Rattle.counts.specs.declared.grant.Grant.{Grant}
-
--- the blocks that are still in a grant
-abbrev pub in_grant : Grant → List ℕ
-in_grant g = drop g.next (take g.len g.blocks)
 
 -- the n lowest free blocks, if there are so many
 abbrev pub lowest_free : ℕ → List ℕ → Option (List ℕ)

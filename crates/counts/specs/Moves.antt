@@ -40,10 +40,6 @@ abbrev pub Laid : ℕ → List Move → Type 0
 Laid w [] = Unit {0}
 Laid w (v ∷ vs) = LaidMove w v × Laid w vs
 
--- a width that a volume uses
-abbrev pub Wide : Meaning → Type 0
-Wide m = (32 ≤ m.width) × (m.width ≤ 40)
-
 -- someone holds a reference to block x; few references are from outside, and there are few blocks
 pub record Owned (m : Meaning) (cs : List ℕ) (x : ℕ) : Type 0 where
   pub others : ℕ → ℕ

@@ -1,12 +1,75 @@
-ghost use Rattle.std.specs.Prelude.{◌≡◌, ℕ, ◌≤◌, length};
+// Free blocks set aside for one call.
+ghost use Rattle.std.specs.Prelude.{◌≡◌, ◌≤◌, [], ◌∷◌, length, drop, vec_len};
+ghost use Rattle.counts.specs.Grants.{lowest_free};
 
-// Free blocks, ascending, set aside for one call. It is not Drop and its fields are private:
+use super::Counts;
+use arrayvec::ArrayVec;
+use std::marker::Model;
+
+// Free blocks, ascending, set aside for one call. It is not Drop and its field is private:
 // only `end` lets it go, once each block was taken or given back.
 pub struct Grant {
-    blocks: [u32; 11],
-    next: usize,
-    len: usize,
-    ghost few: { (next ≤ len) × (len ≤ 11) × (length blocks ≡ 11) },
+    blocks: ArrayVec<u32, 11>,
 }
 
-mod taking;
+// The blocks that are left.
+impl Model for Grant {
+    ghost use Rattle.std.specs.Prelude.{List, ℕ};
+
+    ghost Value = { List ℕ };
+
+    ghost view = { λ g. g.blocks.items };
+}
+
+impl Grant {
+    // The n lowest free blocks, if there are so many.
+    pub fn lowest(counts: &Counts, n: usize) -> Option<Grant>
+        requires { (n ≤ 11) × ((2 ≤ vec_len counts.now.of) × (vec_len counts.now.of ≤ 4096)) }
+        ensures { result ≡ lowest_free n counts.now.of.items }
+    {
+        let mut blocks = ArrayVec::new();
+        for (i, count) in counts.of[2..].iter().enumerate() {
+            if blocks.len() == n {
+                return Some(Grant { blocks });
+            }
+            if *count == 0 {
+                blocks.push(i as u32 + 2);
+            }
+        }
+        if blocks.len() == n {
+            Some(Grant { blocks })
+        } else {
+            None
+        }
+    }
+
+    // The next block.
+    pub fn take(&mut self) -> u32
+        requires { 1 ≤ length self.old }
+        ensures { self.old ≡ result ∷ self.new }
+    {
+        self.blocks.remove(0)
+    }
+
+    // The next block is not needed, and stays free.
+    pub fn give_back(&mut self)
+        requires { 1 ≤ length self.old }
+        ensures { self.new ≡ drop 1 self.old }
+    {
+        self.take();
+    }
+
+    // None of the blocks that are left is needed, and they stay free.
+    pub fn give_back_all(&mut self)
+        ensures { self.new ≡ [] }
+    {
+        self.blocks.clear();
+    }
+
+    // Lets the grant go, with no block in it.
+    pub fn end(self)
+        requires { self ≡ [] }
+    {
+        let Grant { blocks: _ } = self;
+    }
+}

@@ -1,7 +1,7 @@
 // References to tree blocks, counted. docs/counts.md explains the equation and the moves that keep it.
 #![tactic(auto)]
 
-ghost use Rattle.std.specs.Prelude.{◌≡◌, ℕ, ◌+◌, ◌-◌, ◌*◌, ◌<◌, ◌≤◌, length, Some, vec_len, slice_index, slice_set};
+ghost use Rattle.std.specs.Prelude.{◌≡◌, ℕ, ◌+◌, ◌-◌, ◌*◌, ◌<◌, ◌≤◌, ◌==◌, length, Some, vec_len, slice_index, slice_set};
 ghost use Rattle.counts.specs.Counts.{AliveIsReached, add_all, opened, Roomy};
 ghost use Rattle.counts.specs.Keeping.{retained, RetainKeeps, OpenKeeps, LinkKeeps, CountsFit};
 ghost use Rattle.page.specs.Block.{kids_of};
@@ -15,21 +15,17 @@ use page::page::Page;
 pub use store::Store;
 
 // Where the counts keep their equation, a block is counted above 0 exactly when a place reaches it: free is unreached.
-pub fn counted_is_reached() -> u8
+pub fn counted_is_reached()
     ensures { AliveIsReached }
-{
-    0
-}
+{}
 
 // Each move keeps the counts' equation, and the counts have 16 bits.
-pub fn moves_keep_the_counts() -> u8
+pub fn moves_keep_the_counts()
     ensures retain { RetainKeeps }
     ensures opening { OpenKeeps }
     ensures link { LinkKeeps }
     ensures fit { CountsFit }
-{
-    0
-}
+{}
 
 // How many references each block has.
 #[derive(Drop)]
@@ -43,8 +39,7 @@ impl Counts {
         requires { block < vec_len self.now.of }
         ensures { result ≡ slice_index self.now.of.items block }
     {
-        let at = block as usize;
-        self.of[at]
+        self.of[block as usize]
     }
 
     // Sets the references to a block.
@@ -54,17 +49,17 @@ impl Counts {
     {
         self.of[block as usize] = count;
     }
-}
 
-impl Counts {
-    // One reference more to a block.
-    pub fn retain(&mut self, block: u32)
+    // One reference more to a block; whether it is the first.
+    pub fn retain(&mut self, block: u32) -> bool
         requires within { block < vec_len self.old.of }
         requires room { slice_index self.old.of.items block < 65535 }
-        ensures { self.new.of.items ≡ retained block self.old.of.items }
+        ensures first { result ≡ (slice_index self.old.of.items block == 0) }
+        ensures counts { self.new.of.items ≡ retained block self.old.of.items }
     {
         let count = self.get(block);
         self.set(block, count + 1);
+        count == 0
     }
 
     // One reference more to each child of a page.
@@ -72,13 +67,10 @@ impl Counts {
         requires { Roomy (kids_of (Some (view page.now))) self.old.of.items }
         ensures { self.new.of.items ≡ add_all (kids_of (Some (view page.now))) self.old.of.items }
     {
-        if page.level == 0 {
-            return;
-        }
-        for i in 0..page.len {
-            let kid = page.items[i].value;
-            let count = self.get(kid);
-            self.set(kid, count + 1);
+        if page.level > 0 {
+            for entry in page.entries.iter() {
+                self.retain(entry.value);
+            }
         }
     }
 
@@ -88,13 +80,12 @@ impl Counts {
         requires alive { 0 < slice_index self.old.of.items block }
         ensures { self.new.of.items ≡ opened (kids_of (Some (view page.now))) block self.old.of.items }
     {
-        let count = self.get(block);
-        if count == 1 {
+        if self.get(block) == 1 {
             self.set(block, 0);
             return;
         }
         self.add_kids(page);
-        let more = self.get(block);
-        self.set(block, more - 1);
+        let count = self.get(block);
+        self.set(block, count - 1);
     }
 }

@@ -1,5 +1,5 @@
 -- What the log does to its image, and so to its meaning.
-use Rattle.std.proofs.Common.{◌≡◌, ℕ, ◌+◌, ◌-◌, ◌*◌, ◌/◌, ◌^◌, ◌<◌, ◌≤◌, min, true, false, cond, eqb, List, [], ◌∷◌, ◌++◌, map, length, get_or, take, drop, set, replicate, sym, refl, ap, ◌∙◌, subst, ⊎_elim, add-mul, arith}
+use Rattle.std.proofs.Common.{◌≡◌, ℕ, ◌+◌, ◌-◌, ◌/◌, ◌^◌, ◌<◌, ◌≤◌, min, true, false, cond, eqb, List, [], ◌∷◌, ◌++◌, map, Ok, length, get_or, take, drop, set, replicate, sym, refl, ap, ◌∙◌, subst, ⊎_elim, add-mul, arith}
 use borrow.Rule.Slice.PartMut.{put_mid}
 use Rattle.std.specs.List.{range_with_len, AllByRecursion}
 use Rattle.std.proofs.lemmas.Nat.{mul-le, le-div, div-add-mod'}
@@ -8,10 +8,12 @@ use Rattle.std.proofs.ByRecursion.{All-append, All-take, All-drop, All-set}
 use Rattle.std.proofs.lemmas.Slice.{between-put_mid, take-put_mid_below}
 use Rattle.std.proofs.lemmas.List.FromFn.{length-map-range_with_len, map-range_with_len_more}
 use Rattle.std.proofs.lemmas.Bool.{cases_eq, eq-eqb, ne_eqb}
-use Rattle.device.specs.Meaning.{Meaning, Cell, words, written, written_cell, flushed, flushed_cell, no_cell, own, spent}
+use Rattle.device.specs.Meaning.{Meaning, Cell, words, held, reading, admitted, blocks_of, written, written_cell, flushed, flushed_cell, no_cell, own, spent}
 use Rattle.device.specs.declared.Layer.TheVariants.{Log}
+use Rattle.device.proofs.Calls.{let_in, reading_at}
 use Rattle.device.proofs.Tables.{get_or_table, set_table, same_table, map_map}
-use Rattle.log_device.specs.Log.{Record, last_of, count_of, log_cell, logged, record_at, records, flushed_in, capacity, log_of, Sound, Shaped, Formed, kind_of, payload_of, word_of, place_of, IsRecord, AreRecords}
+use Rattle.word.specs.Words.{kind_of, payload_of, word_of}
+use Rattle.log_device.specs.Log.{Record, last_of, count_of, log_cell, logged, record_at, records, flushed_in, capacity, log_of, Sound, place_of, IsRecord}
 use Rattle.log_device.specs.Fit.{rows, last_append}
 
 abbrev make : ℕ → List Cell → ℕ → Meaning
@@ -97,8 +99,18 @@ pub same_record : (w : ℕ) (img img' : List ℕ) (i : ℕ) → get_or img' (pla
     → take w (drop (place_of w i + 1) img') ≡ take w (drop (place_of w i + 1) img) → record_at w img' i ≡ record_at w img i
 same_record w img img' i p q = ap (λ x. (payload_of x, take w (drop (place_of w i + 1) img'))) p ∙ ap (λ ys. (payload_of (get_or img (place_of w i) 0), ys)) q
 
-pub below : (i k w : ℕ) → i < k → k ≤ 268435455 → w ≤ 64 → i * (w + 1) ≤ 268435455 * 65
-below i k w h s n = mul-le i (w + 1) 268435455 65 (omega arith) (omega arith)
+-- what is admitted has the right length and a block that is there
+pub admitted_at : (img : List ℕ) (n w k b len : ℕ) {width blocks : ℕ} → width ≡ w → blocks ≡ blocks_of (log_of img n w k)
+    → Ok tt ≡ admitted Log width blocks b len → (len ≡ w) × (b < n)
+admitted_at img n w k b len {width} {blocks} p q e =
+    let m = log_of img n w k in
+    let t : (len ≡ w) × (b < blocks_of m) = let_in Log m b len (e ∙ ap (λ x. admitted Log x blocks b len) p ∙ ap (λ x. admitted Log w x b len) q) in
+    (t.0, omega (arith, t.1, length-map-range_with_len (log_cell w (records w img k) (flushed_in img)) 0 n))
+
+pub read_at : (img : List ℕ) (n w k b len : ℕ) → b < n → len ≡ w → reading Log (log_of img n w k) b len ≡ Ok (last_of (records w img k) b (replicate w 0))
+read_at img n w k b len h e =
+    let cell = log_cell w (records w img k) (flushed_in img) in
+    reading_at Log (log_of img n w k) b len e (simp length-map-range_with_len h) ∙ ap (λ (c : Cell). held c.current) (get_or_table cell n b no_cell h)
 
 -- the head is set
 module _ (img : List ℕ) (n w k : ℕ) (s : Sound img n w k) where
@@ -227,19 +239,3 @@ module _ (img : List ℕ) (n w k : ℕ) (s : Sound img n w k) (b : ℕ) (ws : Li
 pub room_of : (k w len : ℕ) → 1 ≤ len → k ≤ capacity len w → place_of w k ≤ len
 room_of k w len one h =
     omega (arith, mul-le k (w + 1) ((len - 1) / (w + 1)) (w + 1) (omega arith) (omega arith), div-add-mod' (len - 1) (w + 1))
-
-pub opened_sound : (img : List ℕ) (n w k : ℕ) → k ≡ flushed_in img → Shaped (length img) n w → Formed img n w → AllByRecursion (λ x. x < 2 ^ 32) img → Sound img n w k
-opened_sound img n w k e s f fits =
-    let h : k ≤ capacity (length img) w = omega (arith, e, f.within) in
-    record {
-      some = s.some;
-      few = s.few;
-      broad = s.broad;
-      narrow = s.narrow;
-      room = room_of k w (length img) s.long h;
-      small = omega (arith, h);
-      head = f.head;
-      flushed = omega (arith, e);
-      kinds = subst (AreRecords img n w) (sym e) f.kinds;
-      fits = fits;
-    }

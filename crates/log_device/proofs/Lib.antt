@@ -1,3 +1,5 @@
 pub mod Facts
 pub mod Indexes
 pub mod Cuts
+pub mod WordKinds
+pub mod Chunks

@@ -1,18 +1,9 @@
 -- What the log device means, what it keeps, and what a cut of the power may leave of it.
-use Rattle.std.specs.Prelude.{◌≡◌, ℕ, ◌+◌, ◌-◌, ◌*◌, ◌/◌, ◌%◌, ◌^◌, ◌<◌, ◌≤◌, min, cond, ◌⊎◌, List, [], ◌∷◌, map, length, take, drop, replicate, ◌==◌, slice_index}
+use Rattle.std.specs.Prelude.{◌≡◌, ℕ, ◌+◌, ◌-◌, ◌*◌, ◌/◌, ◌^◌, ◌<◌, ◌≤◌, min, cond, ◌⊎◌, List, [], ◌∷◌, map, length, take, drop, replicate, ◌==◌, slice_index, slice_index_or, Option, None, Some}
 use Rattle.std.specs.List.{range_with_len, AllByRecursion}
 use Rattle.device.specs.Meaning.{Meaning, Cell, words, own, Cut}
 use Rattle.device.specs.declared.Layer.TheVariants.{Log}
-
--- a word of 32 bits: its kind is the top 4 bits, its payload the other 28
-abbrev pub kind_of : ℕ → ℕ
-kind_of x = x / 2 ^ 28
-
-abbrev pub payload_of : ℕ → ℕ
-payload_of x = x % 2 ^ 28
-
-abbrev pub word_of : ℕ → ℕ → ℕ
-word_of kind payload = kind * 2 ^ 28 + payload
+use Rattle.word.specs.Words.{kind_of, payload_of, word_of}
 
 -- a record: its block and its words
 abbrev pub Record : Type 0
@@ -98,15 +89,16 @@ pub record Sound (img : List ℕ) (n w k : ℕ) : Type 0 where
   pub kinds : AreRecords img n w k
   pub fits : AllByRecursion (λ x. x < 2 ^ 32) img
 
--- the words of the record of a number, counted from 1, or zeros for 0
-abbrev pub numbered : ℕ → List ℕ → ℕ → List ℕ
-numbered w img j = cond (j == 0) (replicate w 0) (record_at w img (j - 1)).1
+-- the words of the record of that number, or zeros for none
+abbrev pub numbered : ℕ → List ℕ → Option ℕ → List ℕ
+numbered w img None = replicate w 0
+numbered w img (Some j) = (record_at w img j).1
 
 -- the index has for each block the number of its last record
-pub record Indexed (img : List ℕ) (n w k : ℕ) (index : List ℕ) : Type 0 where
+pub record Indexed (img : List ℕ) (n w k : ℕ) (index : List (Option ℕ)) : Type 0 where
   pub long : length index ≡ n
-  pub within : (b : ℕ) → b < n → slice_index index b ≤ k
-  pub last : (b : ℕ) → b < n → last_of (records w img k) b (replicate w 0) ≡ numbered w img (slice_index index b)
+  pub within : (b j : ℕ) → b < n → slice_index_or index b None ≡ Some j → j < k
+  pub last : (b : ℕ) → b < n → last_of (records w img k) b (replicate w 0) ≡ numbered w img (slice_index_or index b None)
 
 -- what a cut may leave of the image of a log with k records: a head, whole, and the records that it counts. The head is
 -- the one that was flushed last or, inside a flush, the one that flush sets. After those records stand any words

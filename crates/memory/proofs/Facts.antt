@@ -7,12 +7,12 @@ use Rattle.std.proofs.ByRecursion.{All-append, All-take, All-drop}
 use Rattle.std.proofs.lemmas.Slice.{between-put_mid, drop-put_mid, take-put_mid_below}
 use Rattle.std.proofs.lemmas.List.FromFn.{length-map-range_with_len}
 use Rattle.std.proofs.lemmas.Bool.{cases_eq, cases_order}
-use Rattle.device.specs.Meaning.{Meaning, Cell, words, reading, held, written, written_cell, flushed, flushed_cell, no_cell, own, endless, Cut, CutCell, CutTo}
+use Rattle.device.specs.Meaning.{Meaning, Cell, words, admitted, blocks_of, reading, held, written, written_cell, flushed, flushed_cell, no_cell, own, endless, Cut, CutCell, CutTo}
 use Rattle.device.specs.declared.Layer.TheVariants.{Memory}
-use Rattle.device.proofs.Calls.{reading_at}
+use Rattle.device.proofs.Calls.{let_in, reading_at}
 use Rattle.device.proofs.Tables.{map_map, get_or_table, set_table, same_table}
 use Rattle.memory.specs.Fit.{rows, block_length}
-use Rattle.memory.specs.Memory.{memory, cleared, Sound, Shaped, block_of, cell_of, Leaves, LeavesBlock, Outlasts}
+use Rattle.memory.specs.Memory.{memory, cleared, Sound, block_of, cell_of, Leaves, LeavesBlock, Outlasts}
 
 module _ (xs : List ℕ) (w n : ℕ) (long : length xs ≡ n * w) where
   module _ (b k : ℕ) (ys : List ℕ) (h : b < n) (size : length ys ≡ w) (count : k ≡ w) where
@@ -40,13 +40,21 @@ module _ (xs : List ℕ) (w n : ℕ) (long : length xs ≡ n * w) where
     pub put_all : (P : ℕ → Type 0) → AllByRecursion P xs → AllByRecursion P ys → AllByRecursion P (put_mid (b * w) k xs ys)
     put_all P px py = All-append P _ _ (All-take P (b * w) xs px) (All-append P _ _ py (All-drop P k _ (All-drop P (b * w) xs px)))
 
+-- what is admitted has the right length and a block that is there
+pub admitted_at : (cur per marks : List ℕ) (w b n : ℕ) {width blocks : ℕ} → width ≡ w → blocks ≡ blocks_of (memory cur per marks w)
+    → Ok tt ≡ admitted Memory width blocks b n → (n ≡ w) × (b < length marks)
+admitted_at cur per marks w b n {width} {blocks} p q e =
+    let m = memory cur per marks w in
+    let t : (n ≡ w) × (b < blocks_of m) = let_in Memory m b n (e ∙ ap (λ x. admitted Memory x blocks b n) p ∙ ap (λ x. admitted Memory w x b n) q) in
+    (t.0, omega (arith, t.1, length-map-range_with_len (cell_of cur per marks w) 0 (length marks)))
+
 module _ (cur per marks : List ℕ) (w : ℕ) (s : Sound cur per marks w) where
   pub read_at : (b n : ℕ) → b < length marks → n ≡ w → reading Memory (memory cur per marks w) b n ≡ Ok (block_of w cur b)
   read_at b n h e =
       reading_at Memory (memory cur per marks w) b n e (simp length-map-range_with_len h)
       ∙ ap (λ (c : Cell). held c.current) (get_or_table (cell_of cur per marks w) (length marks) b no_cell h)
 
-  module _ (b k v : ℕ) (ws : List ℕ) (h : b < length marks) (size : length ws ≡ w) (count : k ≡ w) (fits : AllByRecursion (λ x. x < 2 ^ 32) ws) (more : v ≡ min (get_or marks b 0 + 1) 2) where
+  module _ (b k v : ℕ) (ws : List ℕ) (h : b < length marks) (size : length ws ≡ w) (count : k ≡ w) (more : v ≡ min (get_or marks b 0 + 1) 2) where
     after_at : cell_of (put_mid (b * w) k cur ws) per (set marks b v) w b ≡ written_cell ws (cell_of cur per marks w b)
     after_at =
         let p = put_same cur w (length marks) s.cur_len b k ws h size count in
@@ -69,8 +77,8 @@ module _ (cur per marks : List ℕ) (w : ℕ) (s : Sound cur per marks w) where
         with_cells : List Cell → Meaning
         with_cells cs = record { width = w; cells = cs; left = endless; left_mark = own Memory }
 
-    pub write_sound : Sound (put_mid (b * w) k cur ws) per (set marks b v) w
-    write_sound =
+    pub write_sound : AllByRecursion (λ x. x < 2 ^ 32) ws → Sound (put_mid (b * w) k cur ws) per (set marks b v) w
+    write_sound fits =
         let n : length (set marks b v) ≡ length marks = length-set marks b v in
         record {
           cur_len = put_length cur w (length marks) s.cur_len b k ws h size count ∙ ap (λ j. j * w) (sym n);
@@ -105,38 +113,6 @@ module _ (cur per marks : List ℕ) (w : ℕ) (s : Sound cur per marks w) where
     where
       with_cells : List Cell → Meaning
       with_cells cs = record { width = w; cells = cs; left = endless; left_mark = own Memory }
-
-  pub flush_sound : Sound cur cur (replicate (length marks) 0) w
-  flush_sound =
-      let n : length (replicate {A = ℕ} (length marks) 0) ≡ length marks = length-replicate (length marks) 0 in
-      record {
-        cur_len = s.cur_len ∙ ap (λ j. j * w) (sym n);
-        per_len = s.cur_len ∙ ap (λ j. j * w) (sym n);
-        some = omega (arith, s.some);
-        few = omega (arith, s.few);
-        broad = s.broad;
-        narrow = s.narrow;
-        counts = λ j j<. omega (arith, get_or-replicate {A = ℕ} (length marks) j 0 0 (omega arith));
-        clean = λ j j< z. refl;
-        cur_fit = s.cur_fit;
-        per_fit = s.cur_fit;
-      }
-
-pub opened_sound : (per : List ℕ) (n w : ℕ) → Shaped (length per) (length per) n w → AllByRecursion (λ x. x < 2 ^ 32) per → Sound per per (replicate n 0) w
-opened_sound per n w s fits =
-    let e : length (replicate {A = ℕ} n 0) ≡ n = length-replicate n 0 in
-    record {
-      cur_len = s.cur_len ∙ ap (λ j. j * w) (sym e);
-      per_len = s.cur_len ∙ ap (λ j. j * w) (sym e);
-      some = omega (arith, s.some);
-      few = omega (arith, s.few);
-      broad = s.broad;
-      narrow = s.narrow;
-      counts = λ j j<. omega (arith, get_or-replicate {A = ℕ} n j 0 0 (omega arith));
-      clean = λ j j< z. refl;
-      cur_fit = fits;
-      per_fit = fits;
-    }
 
 -- opening after a cut shows a cut of what was shown before
 module _ (cur per marks left : List ℕ) (w : ℕ) (s : Sound cur per marks w) (l : Leaves w cur per marks left) where

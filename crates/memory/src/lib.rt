@@ -2,20 +2,14 @@
 // Only the persisted words outlast a cut of the power.
 #![tactic(auto)]
 
-ghost use Rattle.std.specs.Prelude.{◌≡◌, ◌+◌, ◌-◌, ◌*◌, ◌^◌, ◌<◌, ◌≤◌, length, take, drop, replicate, IfOk, MatchResult};
+ghost use Rattle.std.specs.Prelude.{◌≡◌, ◌<◌, length, replicate, IfOk, MatchBool, MatchResult};
 ghost use Rattle.std.specs.List.{AllByRecursion};
 ghost use Rattle.device.specs.declared.Layer.{Layer};
 ghost use Rattle.std.proofs.Props.{props};
 ghost use Rattle.memory.specs.Fit.{fit};
-ghost use Rattle.memory.specs.Memory.{memory, Sound, Shaped, cleared, Outlasts};
+ghost use Rattle.memory.specs.Memory.{memory, Sound, Shaped, block_of, cleared, Outlasts};
 
 use device::{Device, DeviceFault, Layer, LayerMark, Unshaped};
-
-// The mark that this device signs with.
-const MARK: LayerMark = LayerMark {
-    layer: Layer::Memory,
-    depth: 0,
-};
 
 #[derive(Drop)]
 pub struct Memory<'a> {
@@ -26,7 +20,7 @@ pub struct Memory<'a> {
     ghost sound: { Sound current.now persisted.now marks.now width } by { Prim.hlevel props },
 }
 
-// What a memory is made of.
+// What a memory is made of: each slice is lent apart, since only the persisted words outlast a cut.
 #[derive(Drop)]
 pub struct Slices<'a> {
     pub current: &'a mut [u32],
@@ -34,31 +28,30 @@ pub struct Slices<'a> {
     pub marks: &'a mut [u8],
 }
 
-// Copies words, which have 32 bits each.
-fn copy_all(to: &mut [u32], from: &[u32])
-    requires { length to.old ≡ length from.now }
-    ensures same { to.new ≡ from.now }
-    ensures fits { AllByRecursion (λ x. x < 2 ^ 32) from.now }
+impl<'a> Slices<'a> {
+    // Are there as many blocks as marks, 1 to 4,096, of 1 to 64 words, and words for each of them?
+    fn is_shaped(&self, width: usize) -> bool
+        ensures { MatchBool result (Shaped (length self.now.current.now) (length self.now.persisted.now) (length self.now.marks.now) width)
+            (Shaped (length self.now.current.now) (length self.now.persisted.now) (length self.now.marks.now) width → ⊥) }
+    {
+        let blocks = self.marks.len();
+        (1..=4096).contains(&blocks)
+            && (1..=64).contains(&width)
+            && self.current.len() == blocks * width
+            && self.persisted.len() == blocks * width
+    }
+}
+
+// Copies one content over the other, and marks no block. The first stays as it is: it is lent as `&mut` because it is a
+// field behind a `&mut` at the calls.
+fn settle(from: &mut [u32], to: &mut [u32], marks: &mut [u8])
+    requires { length to.old ≡ length from.old }
+    ensures from { from.new ≡ from.old }
+    ensures to { to.new ≡ from.old }
+    ensures marks { marks.new ≡ replicate (length marks.old) 0 }
 {
     to.copy_from_slice(from);
-}
-
-// Fills the buffer from a part of the words.
-fn copy_part(words: &[u32], from: usize, out: &mut [u32])
-    requires { from + length out.old ≤ length words.now }
-    ensures { out.new ≡ take (length out.old) (drop from words.now) }
-{
-    let to = from + out.len();
-    out.copy_from_slice(&words[from..to]);
-}
-
-// Sets every mark to 0.
-fn clear(marks: &mut [u8])
-    ensures { marks.new ≡ replicate (length marks.old) 0 }
-{
-    for m in marks.iter_mut() {
-        *m = 0;
-    }
+    marks.fill(0);
 }
 
 impl<'a> Memory<'a> {
@@ -77,27 +70,20 @@ impl<'a> Memory<'a> {
             × (e.given.current.now ≡ current.old) × (e.given.persisted.now ≡ persisted.old) × (e.given.marks.now ≡ marks.old)) }
         ensures cut { IfOk result (λ s. Outlasts persisted.old (length marks.old) width (memory s.current.now s.persisted.now s.marks.now s.width)) }
     {
-        let blocks = marks.len();
-        if blocks < 1 || blocks > 4096 || width < 1 || width > 64 {
-            return Err(Unshaped {
-                given: Slices {
-                    current,
-                    persisted,
-                    marks,
-                },
-            });
+        let given = Slices {
+            current,
+            persisted,
+            marks,
+        };
+        if !given.is_shaped(width) {
+            return Err(Unshaped { given });
         }
-        if current.len() != blocks * width || persisted.len() != blocks * width {
-            return Err(Unshaped {
-                given: Slices {
-                    current,
-                    persisted,
-                    marks,
-                },
-            });
-        }
-        copy_all(current, persisted);
-        clear(marks);
+        let Slices {
+            current,
+            persisted,
+            marks,
+        } = given;
+        settle(persisted, current, marks);
         Ok(Memory {
             current,
             persisted,
@@ -110,22 +96,20 @@ impl<'a> Memory<'a> {
     pub fn into_slices(self) -> Slices<'a>
         ensures { (result.current.now ≡ self.entry.current.now) × (result.persisted.now ≡ self.entry.persisted.now) × (result.marks.now ≡ self.entry.marks.now) }
     {
-        let current = self.current;
-        let persisted = self.persisted;
-        let marks = self.marks;
         Slices {
-            current,
-            persisted,
-            marks,
+            current: self.current,
+            persisted: self.persisted,
+            marks: self.marks,
         }
     }
 
-    // Fills the buffer from the current words.
-    fn show(&self, from: usize, out: &mut [u32])
-        requires { from + length out.old ≤ length self.now.current.now }
-        ensures { out.new ≡ take (length out.old) (drop from self.now.current.now) }
+    // The current words of a block.
+    fn words(&self, block: usize) -> &[u32]
+        requires { block < length self.now.marks.now }
+        ensures { result.now ≡ block_of self.now.width self.now.current.now block }
     {
-        copy_part(self.current, from, out);
+        let from = block * self.width;
+        &self.current[from..from + self.width]
     }
 }
 
@@ -145,44 +129,26 @@ impl<'a> Device for Memory<'a> {
     }
 
     fn left(&self) -> (u32, LayerMark) {
-        (u32::MAX, MARK)
+        (u32::MAX, Layer::Memory.own())
     }
 
     fn read(&mut self, block: u32, out: &mut [u32]) -> Result<(), DeviceFault> {
-        if out.len() != self.width {
-            return Err(DeviceFault::Length(MARK));
-        }
-        let block = block as usize;
-        if block >= self.marks.len() {
-            return Err(DeviceFault::Range(MARK));
-        }
-        let from = block * self.width;
-        self.show(from, out);
+        Layer::Memory.admit(self.width(), self.blocks(), block, out.len())?;
+        out.copy_from_slice(self.words(block as usize));
         Ok(())
     }
 
     fn write(&mut self, block: u32, words: &[u32]) -> Result<(), DeviceFault> {
-        if words.len() != self.width {
-            return Err(DeviceFault::Length(MARK));
-        }
+        Layer::Memory.admit(self.width(), self.blocks(), block, words.len())?;
         let block = block as usize;
-        if block >= self.marks.len() {
-            return Err(DeviceFault::Range(MARK));
-        }
         let from = block * self.width;
-        let to = from + self.width;
-        let mark = self.marks[block].saturating_add(1).min(2);
-        self.marks[block] = mark;
-        self.current[from..to].copy_from_slice(words);
+        self.marks[block] = self.marks[block].saturating_add(1).min(2);
+        self.current[from..from + self.width].copy_from_slice(words);
         Ok(())
     }
 
     fn flush(&mut self) {
-        let words = self.current.len();
-        for i in 0..words {
-            self.persisted[i] = self.current[i];
-        }
-        clear(self.marks);
+        settle(self.current, self.persisted, self.marks);
     }
 }
 
@@ -232,11 +198,23 @@ mod tests {
         };
         let mut long = [0, 0, 0];
         let mut out = [0, 0];
-        assert_eq!(rt; memory.read(1, &mut long), Err(DeviceFault::Length(MARK)));
-        assert_eq!(rt; memory.read(1, &mut out), Err(DeviceFault::Range(MARK)));
-        assert_eq!(rt; memory.write(1, &[1]), Err(DeviceFault::Length(MARK)));
-        assert_eq!(rt; memory.write(1, &[1, 1]), Err(DeviceFault::Range(MARK)));
-        assert_eq!(rt; memory.left(), (u32::MAX, MARK));
+        assert_eq!(rt;
+            memory.read(1, &mut long),
+            Err(DeviceFault::Length(Layer::Memory.own()))
+        );
+        assert_eq!(rt;
+            memory.read(1, &mut out),
+            Err(DeviceFault::Range(Layer::Memory.own()))
+        );
+        assert_eq!(rt;
+            memory.write(1, &[1]),
+            Err(DeviceFault::Length(Layer::Memory.own()))
+        );
+        assert_eq!(rt;
+            memory.write(1, &[1, 1]),
+            Err(DeviceFault::Range(Layer::Memory.own()))
+        );
+        assert_eq!(rt; memory.left(), (u32::MAX, Layer::Memory.own()));
         Ok(())
     }
 

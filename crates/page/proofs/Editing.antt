@@ -3,7 +3,7 @@ use Rattle.std.proofs.Common.{◌≡◌, ℕ, zero, suc, ◌+◌, ◌<◌, ◌�
 use Rattle.std.specs.List.{AllWithin, HoldsAt}
 use Rattle.std.proofs.lemmas.List.{get_or-map, length-map}
 use Rattle.std.proofs.lemmas.Bool.{lt-ltb, le-ltb, eq-eqb, ne_eqb}
-use Rattle.tree.specs.Node.{ins, del, first}
+use Rattle.tree.specs.Node.{ins, del}
 use Rattle.page.specs.View.{pair}
 use Rattle.page.specs.declared.page.Entry.{Entry}
 
@@ -33,10 +33,6 @@ first_found No Yes xs (Some i) h = record {
   before = λ k l. subst No (speed_at xs k (omega (arith, h.0))) (h.2 k blank (omega arith) l);
   here = λ l. subst Yes (speed_at xs i h.0) (h.1 blank);
 }
-
-pub first_at : (es : List (ℕ × ℕ)) → 0 < length es → (get_or es 0 (0, 0)).0 ≡ first es
-first_at [] h = absurd (omega arith)
-first_at (e ∷ r) h = refl
 
 -- The entry that covers a speed is the one before the first later one that lies above it.
 pub covers_past : (es : List (ℕ × ℕ)) (s i : ℕ) → First (λ k. k ≤ s) (λ k. s < k) (drop 1 es) i → (k : ℕ) → k < i → (get_or es (suc k) (0, 0)).0 ≤ s

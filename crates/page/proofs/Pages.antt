@@ -1,5 +1,5 @@
 -- Pages in memory, and their words.
-use Rattle.std.proofs.Common.{◌≡◌, ℕ, zero, suc, ◌<◌, List, map, length, get_or, Some, refl, ap, ◌∙◌, arith}
+use Rattle.std.proofs.Common.{◌≡◌, ℕ, zero, suc, ◌<◌, List, [], ◌∷◌, map, length, get_or, Some, refl, ap, ◌∙◌, arith}
 use Rattle.std.proofs.lemmas.List.{get_or-map, length-map}
 use Rattle.page.specs.Block.{children, kids_of}
 use Rattle.page.specs.View.{pair, entries, view}
@@ -24,3 +24,10 @@ page_kids_at p i r h lt =
     ap (λ ks. get_or ks i 0) (kids_of_lem p.level (entries p) h)
     ∙ get_or-map (λ e. e.1) (entries p) i (0, 0) 0 (omega (arith, entries_length p))
     ∙ ap (λ e. e.1) (entries_at p i r lt)
+
+pub page_kids : (p : Page) → 0 < p.level → kids_of (Some (view p)) ≡ map (λ (e : Entry). e.value) p.entries.items
+page_kids p h = kids_of_lem p.level (entries p) h ∙ values p.entries.items
+  where
+    values : (xs : List Entry) → map (λ (e : ℕ × ℕ). e.1) (map pair xs) ≡ map (λ (e : Entry). e.value) xs
+    values [] = refl
+    values (x ∷ xs) = ap (λ ks. x.value ∷ ks) (values xs)

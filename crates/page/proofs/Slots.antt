@@ -143,8 +143,3 @@ read_by n b ws (Some x) g t e h =
 
 pub slots_exact : SlotsExact
 slots_exact = ((λ n b ws g t h. read_by n b ws (decode_slot ws) g t refl h), slot_back)
-
--- A slot of the wrong parity is none.
-pub wrong_parity : (n b : ℕ) (ws : List ℕ) (x : ℕ × Table) → Some x ≡ decode_slot ws → (x.0 % 2 ≡ b → ⊥) → None ≡ slot_read n b ws
-wrong_parity n b ws x e h =
-    sym (ap (if_stands n b) (sym e) ∙ ap (λ k. cond (k && every (rooted n) x.1) (Some x) None) (ne_eqb (x.0 % 2) b h))

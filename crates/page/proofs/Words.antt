@@ -1,8 +1,8 @@
 -- Words of tree blocks, written and read in order.
-use Rattle.std.proofs.Common.{◌≡◌, ℕ, zero, suc, ◌+◌, ◌-◌, ◌*◌, ◌/◌, ◌%◌, ◌<◌, ◌≤◌, Bool, true, false, cond, ◌&&◌, ltb, leb, ◌⊎◌, List, [], ◌∷◌, ◌++◌, map, length, get_or, take, drop, set, replicate, Some, None, sym, refl, ap, ◌∙◌, ap₂, ⊎_elim, add-one, arith, length-append}
+use Rattle.std.proofs.Common.{◌≡◌, ℕ, zero, suc, ◌+◌, ◌-◌, ◌*◌, ◌/◌, ◌%◌, ◌<◌, ◌≤◌, Bool, true, false, cond, ◌&&◌, ltb, leb, List, [], ◌∷◌, ◌++◌, map, length, get_or, take, drop, set, replicate, Some, None, sym, refl, ap, ◌∙◌, ap₂, add-one, arith, length-append}
 use Rattle.std.proofs.lemmas.List.{take_more, map_push, append_assoc, set_at, drop_at, drop-drop, get_or-drop, get_or-take, get_or_append_left, length-take-le}
 use Rattle.std.proofs.lemmas.Slice.Eq.{bytes_eq-Decides}
-use Rattle.std.proofs.lemmas.Bool.{and_left, and_right, and_from, lt-leb, le-ltb, le-leb, lt-ltb}
+use Rattle.std.proofs.lemmas.Bool.{and_from, le-leb, lt-ltb}
 use Rattle.std.specs.Option.{option_map}
 use Rattle.word.specs.Words.{payload_of, word_of}
 use Rattle.page.specs.Block.{Block, flat, pairs, encode, read, same, decode}
@@ -70,19 +70,10 @@ pub left_step : (xs pair more : List ℕ) (i : ℕ) → drop (2 * i) xs ≡ pair
 left_step xs pair more i e two =
     sym (drop_at pair more 2 two) ∙ ap (drop 2) (sym e) ∙ drop-drop 2 (2 * i) xs ∙ ap (λ n. drop n xs) (omega arith)
 
-fits_no : (n l : ℕ) (ws : List ℕ) → (15 < n) ⊎ (4 < l) → (leb (length (pairs n ws)) 15 && ltb l 5) ≡ false
-fits_no n l ws h = ⊎_elim
-    (λ p. and_left (leb (length (pairs n ws)) 15) (ltb l 5) (lt-leb (length (pairs n ws)) 15 (omega (arith, pairs_length n ws))))
-    (λ p. and_right (leb (length (pairs n ws)) 15) (ltb l 5) (le-ltb l 5 (omega arith))) h
-
 fits_yes : (n l : ℕ) (ws : List ℕ) → n ≤ 15 → l ≤ 4 → (leb (length (pairs n ws)) 15 && ltb l 5) ≡ true
 fits_yes n l ws a b = and_from (leb (length (pairs n ws)) 15) (ltb l 5) (le-leb (length (pairs n ws)) 15 (omega (arith, pairs_length n ws))) (lt-ltb l 5 (omega arith))
 
--- words with too many entries, or too high a level, hold no block
-pub decode_far : (ws : List ℕ) → (15 < get_or ws 0 0 % 256) ⊎ (4 < get_or ws 0 0 % 268435456 / 256) → None ≡ decode ws
-decode_far ws h = sym (ap (λ b. cond (b && same ws (encode (length ws) (read ws))) (Some (read ws)) None) (fits_no (get_or ws 0 0 % 256) (get_or ws 0 0 % 268435456 / 256) (drop 2 ws) h))
-
--- else the test decides
+-- where there are not too many entries and the level is not too high, the test decides
 pub decode_by : (ws : List ℕ) (n : Block) (b : Bool) → get_or ws 0 0 % 256 ≤ 15 → get_or ws 0 0 % 268435456 / 256 ≤ 4 → n ≡ read ws → b ≡ same ws (encode (length ws) n) → cond b (Some n) None ≡ decode ws
 decode_by ws n b h l e t =
     ap (λ d. cond d (Some n) None) t

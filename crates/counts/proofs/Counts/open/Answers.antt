@@ -5,17 +5,17 @@ use Rattle.counts.proofs.Steps.{within as inside}
 use Rattle.counts.proofs.Opens.{add_all_ge, length_add_all}
 use Rattle.counts.proofs.Counts.open.Goals as goal
 
-pub get-count-requires : goal.get-count-requires
-get-count-requires c = omega (arith, c.args.self.now.of.ok.0, inside (vec_items c.args.self.now.of) c.args.block c.requires.alive)
+pub get-requires : goal.get-requires
+get-requires c = omega (arith, c.args.self.now.of.ok.0, inside (vec_items c.args.self.now.of) c.args.block c.requires.alive)
 
 pub set-requires : goal.set-requires
 set-requires c = omega (arith, c.args.self.now.of.ok.0, inside (vec_items c.args.self.now.of) c.args.block c.requires.alive)
 
-pub get-more-requires : goal.get-more-requires
-get-more-requires c = omega (arith, c.add_kids.new.self.of.ok.0, ap length c.add_kids.ensures, length_add_all (kids_of (Some (view c.args.page.now))) (vec_items c.args.self.now.of), inside (vec_items c.args.self.now.of) c.args.block c.requires.alive)
+pub get-count-requires : goal.get-count-requires
+get-count-requires c = omega (arith, c.add_kids.new.self.of.ok.0, ap length c.add_kids.ensures, length_add_all (kids_of (Some (view c.args.page.now))) (vec_items c.args.self.now.of), inside (vec_items c.args.self.now.of) c.args.block c.requires.alive)
 
-pub overflow_sub-more : goal.overflow_sub-more
-overflow_sub-more c = omega (arith, c.get-more.ensures, ap (λ ds. get_or ds c.args.block 0) c.add_kids.ensures, add_all_ge (kids_of (Some (view c.args.page.now))) (vec_items c.args.self.now.of) c.args.block, c.requires.alive)
+pub overflow_sub-count : goal.overflow_sub-count
+overflow_sub-count c = omega (arith, c.get-count.ensures, ap (λ ds. get_or ds c.args.block 0) c.add_kids.ensures, add_all_ge (kids_of (Some (view c.args.page.now))) (vec_items c.args.self.now.of) c.args.block, c.requires.alive)
 
 pub set-requires-2 : goal.set-requires-2
 set-requires-2 c = omega (arith, c.add_kids.new.self.of.ok.0, ap length c.add_kids.ensures, length_add_all (kids_of (Some (view c.args.page.now))) (vec_items c.args.self.now.of), inside (vec_items c.args.self.now.of) c.args.block c.requires.alive)

@@ -1,26 +1,33 @@
-use Rattle.std.proofs.Common.{◌≡◌, length, sym, refl, ap, ◌∙◌, subst}
-use Rattle.std.proofs.lemmas.List.FromFn.{length-map-range_with_len}
-use Rattle.device.specs.Meaning.{answered, filled, Cell, held, no_cell, reading, current_at}
-use Rattle.device.specs.declared.Layer.TheVariants.{Log}
-use Rattle.device.proofs.Calls.{reading_far, reading_at}
-use Rattle.device.proofs.Tables.{get_or_table}
-use Rattle.log_device.specs.Log.{log_of, log_cell, records, flushed_in}
+use Rattle.std.proofs.Common.{◌≡◌, length, replicate, sym, refl, ap, ◌∙◌}
+use Rattle.device.specs.Meaning.{answered, filled}
+use Rattle.log_device.specs.Fit.{cell_fit}
+use Rattle.log_device.proofs.Facts.{admitted_at, read_at}
 use Rattle.log_device.proofs.LogDevice.read.Goals as goal
 
-pub returns-then-block-self : goal.returns-then-block-self
-returns-then-block-self c =
+pub last-requires : goal.last-requires
+last-requires c =
     let s = c.args.self.now in
-    let m = log_of s.image.now s.blocks s.width s.count in
-    let r = reading_far Log m c.args.block (length c.args.out.now) c.if-out-self.false (simp length-map-range_with_len c.if-block-self.true) in
-    record { stays = c.requires; same = refl; answer = sym (ap answered r); buffer = sym (ap (λ x. filled x c.args.out.now) r) }
+    (admitted_at s.image.now s.blocks s.width s.count c.args.block (length c.args.out.now) c.width.ensures c.blocks-2.ensures (sym c.in_ok-admit.was ∙ c.admit.ensures)).1
 
-pub returns : goal.returns
-returns c =
+pub copy_from_slice-requires : goal.copy_from_slice-requires
+copy_from_slice-requires c =
     let s = c.args.self.now in
-    let m = log_of s.image.now s.blocks s.width s.count in
+    let t = admitted_at s.image.now s.blocks s.width s.count c.args.block (length c.args.out.now) c.width.ensures c.blocks-2.ensures (sym c.in_ok-admit.was ∙ c.admit.ensures) in
+    t.0 ∙ sym (ap length c.in-Some.ensures ∙ (cell_fit s.image.now s.blocks s.width s.count s.sound c.args.block).current.0)
+
+pub returns-in-Some : goal.returns-in-Some
+returns-in-Some c =
+    let s = c.args.self.now in
     let n = length c.args.out.now in
-    let b = c.args.block in
-    let cell = log_cell s.width (records s.width s.image.now s.count) (flushed_in s.image.now) in
-    let at : current_at m b ≡ (cell b).current = ap (λ (x : Cell). x.current) (get_or_table cell s.blocks b no_cell c.if-block-self.false) in
-    let r : reading Log m b n ≡ held (cell b).current = reading_at Log m b n c.if-out-self.false (simp length-map-range_with_len c.if-block-self.false) ∙ ap held at in
-    record { stays = c.requires; same = refl; answer = sym (ap answered r); buffer = subst (λ x. c.show.new.out ≡ filled x c.args.out.now) (sym r) c.show.ensures }
+    let t = admitted_at s.image.now s.blocks s.width s.count c.args.block n c.width.ensures c.blocks-2.ensures (sym c.in_ok-admit.was ∙ c.admit.ensures) in
+    let r = read_at s.image.now s.blocks s.width s.count c.args.block n t.1 t.0 in
+    record { same = refl; answer = sym (ap answered r); buffer = c.copy_from_slice.ensures.after ∙ c.in-Some.ensures ∙ sym (ap (λ x. filled x c.args.out.now) r) }
+
+pub returns-in-None : goal.returns-in-None
+returns-in-None c =
+    let s = c.args.self.now in
+    let n = length c.args.out.now in
+    let t = admitted_at s.image.now s.blocks s.width s.count c.args.block n c.width.ensures c.blocks-2.ensures (sym c.in_ok-admit.was ∙ c.admit.ensures) in
+    let r = read_at s.image.now s.blocks s.width s.count c.args.block n t.1 t.0 in
+    let zeros : c.fill.new.self ≡ replicate n 0 = c.fill.ensures.after (λ y e. e) in
+    record { same = refl; answer = sym (ap answered r); buffer = zeros ∙ ap (λ k. replicate k 0) t.0 ∙ sym (c.in-None.ensures) ∙ sym (ap (λ x. filled x c.args.out.now) r) }

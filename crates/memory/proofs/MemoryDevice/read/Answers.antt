@@ -1,25 +1,24 @@
-use Rattle.std.proofs.Common.{◌≡◌, ◌*◌, length, take, drop, sym, refl, ap, ◌∙◌, subst, arith}
-use Rattle.std.proofs.lemmas.List.FromFn.{length-map-range_with_len}
+use Rattle.std.proofs.Common.{length, sym, refl, ap, ◌∙◌}
 use Rattle.device.specs.Meaning.{answered, filled}
-use Rattle.device.proofs.Calls.{reading_far}
-use Rattle.memory.specs.Memory.{memory}
-use Rattle.memory.proofs.Facts.{read_at}
-use Rattle.memory.specs.Fit.{rows}
+use Rattle.memory.proofs.Facts.{admitted_at, read_at}
+use Rattle.memory.specs.Fit.{block_length}
 use Rattle.memory.proofs.MemoryDevice.read.Goals as goal
 
-pub returns-then-block-self : goal.returns-then-block-self
-returns-then-block-self c =
-    let r = reading_far _ (memory c.args.self.now.current.now c.args.self.now.persisted.now c.args.self.now.marks.now c.args.self.now.width) c.args.block (length c.args.out.now) c.if-out-self.false (simp length-map-range_with_len c.if-block-self.true) in
-    record { stays = c.requires; same = refl; answer = sym (ap answered r); buffer = sym (ap (λ x. filled x c.args.out.now) r) }
+pub words-requires : goal.words-requires
+words-requires c =
+    let s = c.args.self.now in
+    (admitted_at s.current.now s.persisted.now s.marks.now s.width c.args.block (length c.args.out.now) c.width.ensures c.blocks-2.ensures (sym c.in_ok-admit.was ∙ c.admit.ensures)).1
 
-pub show-requires : goal.show-requires
-show-requires c = omega (arith, rows c.args.block (length c.args.self.now.marks.now) c.args.self.now.width c.if-block-self.false, c.requires.cur_len)
+pub copy_from_slice-requires : goal.copy_from_slice-requires
+copy_from_slice-requires c =
+    let s = c.args.self.now in
+    let t = admitted_at s.current.now s.persisted.now s.marks.now s.width c.args.block (length c.args.out.now) c.width.ensures c.blocks-2.ensures (sym c.in_ok-admit.was ∙ c.admit.ensures) in
+    t.0 ∙ sym (ap length c.words.ensures ∙ block_length s.current.now s.width (length s.marks.now) s.sound.cur_len c.args.block t.1)
 
 pub returns : goal.returns
 returns c =
-    let r = read_at c.args.self.now.current.now c.args.self.now.persisted.now c.args.self.now.marks.now c.args.self.now.width c.requires c.args.block (length c.args.out.now) c.if-block-self.false c.if-out-self.false in
-    let from = c.args.block * c.args.self.now.width in
-    let cur = c.args.self.now.current.now in
-    let part : c.show.new.out ≡ take (length c.args.out.now) (drop from cur) = c.show.ensures in
-    let shown : c.show.new.out ≡ take c.args.self.now.width (drop from cur) = subst (λ n. c.show.new.out ≡ take n (drop from cur)) c.if-out-self.false part in
-    record { stays = c.requires; same = refl; answer = sym (ap answered r); buffer = shown ∙ sym (ap (λ x. filled x c.args.out.now) r) }
+    let s = c.args.self.now in
+    let n = length c.args.out.now in
+    let t = admitted_at s.current.now s.persisted.now s.marks.now s.width c.args.block n c.width.ensures c.blocks-2.ensures (sym c.in_ok-admit.was ∙ c.admit.ensures) in
+    let r = read_at s.current.now s.persisted.now s.marks.now s.width s.sound c.args.block n t.1 t.0 in
+    record { same = refl; answer = sym (ap answered r); buffer = c.copy_from_slice.ensures.after ∙ c.words.ensures ∙ sym (ap (λ x. filled x c.args.out.now) r) }

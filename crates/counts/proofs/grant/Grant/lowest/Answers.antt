@@ -1,53 +1,31 @@
-use Rattle.std.proofs.Common.{◌≡◌, ℕ, ◌+◌, ◌-◌, ◌≤◌, Bool, true, false, cond, ltb, List, [], ◌∷◌, ◌++◌, length, get_or, take, vec_items, sym, refl, ap, ◌∙◌, append_assoc, arith}
-use Rattle.std.proofs.lemmas.List.{length-take-le, append-nil}
-use Rattle.counts.specs.Counts.{spare, free_blocks}
-use Rattle.counts.proofs.Granting.{one_on, full, scarce}
+use Rattle.std.proofs.Common.{◌≡◌, ℕ, ◌+◌, ◌-◌, ◌<◌, cond, List, [], ◌∷◌, ◌++◌, length, get_or, take, drop, vec_items, sym, ap, ◌∙◌, arith, length-drop}
+use Rattle.std.proofs.lemmas.List.{get_or-take, get_or-drop, length-take-le, append-nil}
+use Rattle.std.proofs.lemmas.Bool.{le-ltb, lt-ltb}
+use Rattle.counts.proofs.Granting.{next_block}
 use Rattle.counts.proofs.grant.Grant.lowest.Goals as goal
+use Rattle.counts.proofs.grant.Grant.lowest.Goals.{then-count-eq0, else-count-eq0}
 
-few : (b : Bool) → cond b 0 1 ≤ 1
-few true = omega arith
-few false = omega arith
-
-pub returns-then-len-n : goal.returns-then-len-n
-returns-then-len-n c = record {
-  whole = (refl, c.if-len-n.true);
-  these = full (vec_items c.args.counts.now.of) (take c.loop-block.len c.loop-block.blocks) _ c.args.n
-      (length-take-le c.loop-block.len c.loop-block.blocks (omega (arith, c.loop-block.invariant.1, c.requires)) ∙ c.if-len-n.true) c.loop-block.invariant.2;
-}
-
-pub loop-block-preserved : goal.loop-block-preserved
-loop-block-preserved c =
+pub loop-i-preserved : goal.loop-i-preserved
+loop-i-preserved c =
     let cs : List ℕ = vec_items c.args.counts.now.of in
-    let b = c.loop-block.block in
-    let N = length cs in
-    let xs : List ℕ = take c.loop-block.len c.loop-block.blocks in
-    let here : c.get-count.result ≡ get_or cs b 0 = c.get-count.ensures in
-    let these = c.note-len.ensures.these ∙ ap (λ k. xs ++ cond (ltb 0 k) [] (b ∷ [])) here in (
-      omega (arith, c.note-len.ensures.len, few (ltb 0 c.get-count.result), c.loop-block.invariant.0, c.if-len-n.false),
-      c.note-len.ensures.long,
-      c.loop-block.invariant.2 ∙ ap (λ r. xs ++ r) (one_on cs b N (omega (arith, c.args.counts.now.of.ok.0)))
-          ∙ sym (append_assoc xs (cond (ltb 0 (get_or cs b 0)) [] (b ∷ [])) (spare (N - (b + 1)) (b + 1) cs))
-          ∙ ap (λ r. r ++ spare (N - (b + 1)) (b + 1) cs) (sym these),
-    )
-
-none_left : (cs xs : List ℕ) (b : ℕ) → length cs ≤ b → free_blocks cs ≡ xs ++ spare (length cs - b) b cs → free_blocks cs ≡ xs
-none_left cs xs b h e = let z : length cs - b ≡ 0 = omega arith in e ∙ ap (λ k. xs ++ spare k b cs) z ∙ append-nil xs
-
-pub returns-then-len-n-2 : goal.returns-then-len-n-2
-returns-then-len-n-2 c =
-    let cs : List ℕ = vec_items c.args.counts.now.of in
-    let xs : List ℕ = take c.loop-block.len c.loop-block.blocks in
-    record {
-      whole = tt;
-      these = scarce cs xs c.args.n (omega (arith, length-take-le c.loop-block.len c.loop-block.blocks (omega (arith, c.loop-block.invariant.1, c.requires, c.loop-block.invariant.0)), c.if-len-n-2.true))
-          (none_left cs xs c.loop-block.block (omega (arith, c.args.counts.now.of.ok.0, c.len-block-end.ensures)) c.loop-block.invariant.2);
-    }
-
-pub returns : goal.returns
-returns c =
-    let e : c.loop-block.len ≡ c.args.n = omega (arith, c.loop-block.invariant.0) in
-    record {
-      whole = (refl, e);
-      these = full (vec_items c.args.counts.now.of) (take c.loop-block.len c.loop-block.blocks) _ c.args.n
-          (length-take-le c.loop-block.len c.loop-block.blocks (omega (arith, c.loop-block.invariant.1, c.requires)) ∙ e) c.loop-block.invariant.2;
-    }
+    let ds : List ℕ = c.deref.result.now in
+    let i = c.loop-i.i in
+    let xs : List ℕ = c.loop-i.blocks.items in
+    let part : List ℕ = take (length ds - 2) (drop 2 ds) in
+    let same : length ds ≡ length cs = ap length c.deref.ensures.value in
+    let long : length part ≡ length ds - 2 = length-take-le (length ds - 2) (drop 2 ds) (omega (arith, length-drop 2 ds)) in
+    let lt : i + 2 < length cs = omega (arith, c.loop-i-test.true) in
+    let here : get_or part i 0 ≡ get_or cs (i + 2) 0
+    = get_or-take (length ds - 2) (drop 2 ds) i 0 (omega arith) ∙ get_or-drop 2 ds i 0 ∙ ap (λ n. get_or ds n 0) (omega arith) ∙ ap (λ zs. get_or zs (i + 2) 0) c.deref.ensures.value in
+    elim c.if-count-eq0.branch [
+      | then-count-eq0 w ↦ record {
+        few = omega (arith, ap (λ v. length v.items) w.blocks-is, w.push.ensures.len, c.loop-i.invariant.few, c.if-len-n.false);
+        these = next_block cs xs c.if-count-eq0.blocks.items i lt c.loop-i.invariant.these
+            (ap (λ v. v.items) w.blocks-is ∙ w.push.ensures.items ∙ ap (λ t. xs ++ cond t [] ((i + 2) ∷ [])) (sym (le-ltb 0 (get_or cs (i + 2) 0) (omega (arith, here, w.if-count-eq0.true)))));
+      }
+      | else-count-eq0 w ↦ record {
+        few = omega (arith, ap (λ v. length v.items) w.blocks-is, c.loop-i.invariant.few);
+        these = next_block cs xs c.if-count-eq0.blocks.items i lt c.loop-i.invariant.these
+            (ap (λ v. v.items) w.blocks-is ∙ sym (append-nil xs) ∙ ap (λ t. xs ++ cond t [] ((i + 2) ∷ [])) (sym (lt-ltb 0 (get_or cs (i + 2) 0) (omega (arith, here, w.if-count-eq0.false)))));
+      }
+    ]

@@ -1,109 +1,104 @@
-use Rattle.std.proofs.Common.{◌≡◌, ℕ, ◌-◌, ◌<◌, List, [], ◌∷◌, length, get_or, take, set, Some, vec_items, sym, refl, ap, ◌∙◌, subst, arith}
-use Rattle.std.proofs.lemmas.List.{take_more, take_all}
+use Rattle.std.proofs.Common.{◌≡◌, ℕ, ◌-◌, ◌<◌, List, [], ◌∷◌, map, length, get_or, take, set, Some, sym, ap, ◌∙◌, subst, arith}
+use Rattle.std.proofs.lemmas.List.{get_or-map, length-map, take_more, take_all}
 use Rattle.device.specs.Meaning.{Meaning}
 use Rattle.page.specs.Block.{block_at, kids_of, level_of}
 use Rattle.page.specs.View.{view}
 use Rattle.page.specs.declared.page.Page.{Page}
-use Rattle.page.proofs.Pages.{page_kids_length, page_kids_at}
-use Rattle.counts.specs.Moves.{Held, Dropped, Wide}
-use Rattle.counts.proofs.Steps.{within as inside}
+use Rattle.page.specs.declared.page.Entry.{Entry}
+use Rattle.page.proofs.Pages.{page_kids}
+use Rattle.counts.specs.Moves.{Held, Dropped}
 use Rattle.counts.proofs.Opens.{held_alive}
 use Rattle.counts.proofs.Drops.{dropped_one, dropped_last, dropped_leaf, dropped_push, next_child}
 use Rattle.counts.proofs.store.Store.+release.Goals as goal
 use Rattle.counts.proofs.store.Store.+release.Goals.{else-count-eq1-via-then-count-eq1+else-level-gt0, else-count-eq1-via-else-count-eq1}
 
--- a block that is held is alive
-alive : (m : Meaning) (cs : List ℕ) (x level : ℕ) → Held m cs x level → 0 < get_or cs x 0
-alive m cs x level h = held_alive (block_at m) cs h.others x h.counted
+-- a block's count fell to 0: what is then known of the store q and the entries xs of its page
+record Fell (s : Meaning × List ℕ) (x : ℕ) (q : Meaning × List ℕ) (xs : List Entry) : Type 0 where
+  same : q.0 ≡ s.0
+  last : get_or s.1 x 0 ≡ 1
+  less : q.1 ≡ set s.1 x 0
+  kids : map (λ (e : Entry). e.value) xs ≡ kids_of (block_at s.0 x)
 
-pub get-count-requires : goal.get-count-requires
-get-count-requires g t c =
-    let cs : List ℕ = vec_items c.args.self.now.counts.of in
-    let w = inside cs c.args.block (alive _ cs c.args.block c.args.level c.requires.held) in
-    omega (arith, c.args.self.now.counts.of.ok.0)
-
-pub set-requires : goal.set-requires
-set-requires g t c =
-    let cs : List ℕ = vec_items c.args.self.now.counts.of in
-    let w = inside cs c.args.block (alive _ cs c.args.block c.args.level c.requires.held) in
-    omega (arith, c.args.self.now.counts.of.ok.0)
+fell : (m : Meaning) (cs ds : List ℕ) (s q : Meaning × List ℕ) (x level count : ℕ) (p : Page) (xs : List Entry) → (m, cs) ≡ s → count ≡ get_or cs x 0 → count ≡ 1 → ds ≡ set cs x (count - 1) → q ≡ (m, ds)
+    → block_at m x ≡ Some (view p) → xs ≡ p.entries.items → level_of (block_at s.0 x) ≡ level → 0 < level → Fell s x q xs
+fell m cs ds s q x level count p xs e n one d k page items height up =
+    let here : block_at s.0 x ≡ Some (view p) = ap (λ (s : Meaning × List ℕ). block_at s.0 x) (sym e) ∙ page in
+    record {
+      same = ap (λ (q : Meaning × List ℕ). q.0) (k ∙ ap (λ (ds : List ℕ). (m, ds)) d) ∙ ap (λ (s : Meaning × List ℕ). s.0) e;
+      last = ap (λ (s : Meaning × List ℕ). get_or s.1 x 0) (sym e) ∙ sym n ∙ one;
+      less = ap (λ (q : Meaning × List ℕ). q.1) k ∙ d ∙ ap (λ (n : ℕ). set cs x (n - 1)) one ∙ ap (λ (s : Meaning × List ℕ). set s.1 x 0) e;
+      kids = ap (map (λ (e : Entry). e.value)) items ∙ sym (page_kids p (omega (arith, ap level_of here, height))) ∙ ap kids_of (sym here);
+    }
 
 pub release-requires : goal.release-requires
 release-requires g t c κs within =
-    let d = g.D.Device in
-    let p : Page = c.read_page-page.result in
-    let ks : List ℕ = kids_of (Some (view p)) in
-    let up : p.level ≡ c.args.level = ap level_of (sym c.read_page-page.ensures.page) ∙ c.requires.held.height in
-    let len = page_kids_length p (omega (arith, up, c.if-level-gt0.true)) in
-    let lt : c.loop-i.i < length ks = omega (arith, c.loop-i-test.true, len) in
-    let same : d.meaning c.loop-i.self.device ≡ d.meaning c.args.self.now.device = c.loop-i.invariant.1 ∙ c.read_page-page.ensures.kept in
-    let n : get_or (vec_items c.args.self.now.counts.of) c.args.block 0 ≡ 1 = omega (arith, c.get-count.ensures, c.if-count-eq1.true) in
-    let e : vec_items c.read_page-page.new.self.counts.of ≡ set (vec_items c.args.self.now.counts.of) c.args.block 0 =
-    ap (λ k. vec_items k.of) c.read_page-page.ensures.counts ∙ c.set.ensures ∙ ap (set (vec_items c.args.self.now.counts.of) c.args.block) (omega (arith, c.if-count-eq1.true)) in
-    let kid : get_or ks c.loop-i.i 0 ≡ (get_or p.items c.loop-i.i c.index-page-i.result).value = page_kids_at p c.loop-i.i c.index-page-i.result (omega (arith, up, c.if-level-gt0.true)) c.loop-i-test.true in
-    let gone = subst (λ m. Dropped (take c.loop-i.i ks) m (vec_items c.read_page-page.new.self.counts.of) (vec_items c.loop-i.self.counts.of)) c.read_page-page.ensures.kept c.loop-i.invariant.2 in (
+    let s : Meaning × List ℕ = c.args.self.now in
+    let q : Meaning × List ℕ = c.read_page-page.new.self in
+    let xs : List Entry = c.deref-entry-items.result.now in
+    let ks : List ℕ = map (λ (e : Entry). e.value) xs in
+    let i = c.loop-entry.entry-index in
+    let f : Fell s c.args.block q xs = fell _ _ c.set.new.self.of.items s q c.args.block c.args.level c.get-count.result c.read_page-page.result xs c.self.view_is c.get-count.ensures c.if-count-eq1.true c.set.ensures c.read_page-page.ensures.kept
+    c.read_page-page.ensures.page c.deref-entry-items.ensures.0 c.requires.height c.if-level-gt0.true in
+    let kid : get_or ks i 0 ≡ c.entry-item.result.value = get_or-map (λ (e : Entry). e.value) xs i c.entry-item.result 0 c.loop-entry-test.true ∙ ap (λ (e : Entry). e.value) (sym c.entry-item.is) in
+    let lt : i < length ks = omega (arith, length-map xs (λ (e : Entry). e.value), c.loop-entry-test.true) in
+    let gone : Dropped (take i ks) s.0 q.1 c.loop-entry.self.1 = subst (λ (m : Meaning). Dropped (take i ks) m q.1 c.loop-entry.self.1) f.same c.loop-entry.invariant.dropped in (
       omega (arith, c.decreases, c.if-level-gt0.true),
       (
         within,
-        (
-          c.loop-i.invariant.0,
-          (
-            subst Wide (sym same) c.requires.wide,
-            subst (λ m. Held m (vec_items c.loop-i.self.counts.of) (get_or p.items c.loop-i.i c.index-page-i.result).value (c.args.level - 1)) (sym same)
-                (subst (λ y. Held (d.meaning c.args.self.now.device) (vec_items c.loop-i.self.counts.of) y (c.args.level - 1)) kid
-                (next_child c.args.block c.args.level ks c.loop-i.i _ _ _ _ c.requires.held n e (ap kids_of (sym c.read_page-page.ensures.page)) lt gone)),
-          ),
-        ),
+        subst (λ (m : Meaning). Held m c.loop-entry.self.1 c.entry-item.result.value (c.args.level - 1)) (sym (c.loop-entry.invariant.kept ∙ f.same))
+            (subst (λ (y : ℕ). Held s.0 c.loop-entry.self.1 y (c.args.level - 1)) kid
+            (next_child c.args.block c.args.level ks i s.0 s.1 q.1 c.loop-entry.self.1 c.requires f.last f.less f.kids lt gone)),
       ),
     )
 
-pub loop-i-preserved : goal.loop-i-preserved
-loop-i-preserved g t c =
-    let d = g.D.Device in
-    let p : Page = c.read_page-page.result in
-    let ks : List ℕ = kids_of (Some (view p)) in
-    let up : p.level ≡ c.args.level = ap level_of (sym c.read_page-page.ensures.page) ∙ c.requires.held.height in
-    let len = page_kids_length p (omega (arith, up, c.if-level-gt0.true)) in
-    let lt : c.loop-i.i < length ks = omega (arith, c.loop-i-test.true, len) in
-    let kid : get_or ks c.loop-i.i 0 ≡ (get_or p.items c.loop-i.i c.index-page-i.result).value = page_kids_at p c.loop-i.i c.index-page-i.result (omega (arith, up, c.if-level-gt0.true)) c.loop-i-test.true in
-    let m : Meaning = d.meaning c.read_page-page.new.self.device in
-    let one_more = subst (λ y. Dropped (y ∷ []) m (vec_items c.loop-i.self.counts.of) (vec_items c.release.new.self.counts.of)) (sym kid)
-    (subst (λ n. Dropped ((get_or p.items c.loop-i.i c.index-page-i.result).value ∷ []) n (vec_items c.loop-i.self.counts.of) (vec_items c.release.new.self.counts.of)) c.loop-i.invariant.1 c.release.ensures.dropped) in (
-      c.release.ensures.sound,
-      c.release.ensures.kept ∙ c.loop-i.invariant.1,
-      subst (λ xs. Dropped xs m (vec_items c.read_page-page.new.self.counts.of) (vec_items c.release.new.self.counts.of))
-          (sym (take_more ks c.loop-i.i 0 lt))
-          (dropped_push (take c.loop-i.i ks) (get_or ks c.loop-i.i 0) m _ _ _ c.loop-i.invariant.2 one_more),
-    )
-
-pub returns-after-loop-i : goal.returns-after-loop-i
-returns-after-loop-i g t c =
-    let d = g.D.Device in
-    let p : Page = c.read_page-page.result in
-    let ks : List ℕ = kids_of (Some (view p)) in
-    let up : p.level ≡ c.args.level = ap level_of (sym c.read_page-page.ensures.page) ∙ c.requires.held.height in
-    let len = page_kids_length p (omega (arith, up, c.if-level-gt0.true)) in
-    let all : take c.loop-i.i ks ≡ ks = take_all c.loop-i.i ks (omega (arith, len, c.loop-i-test.false)) in
-    let n : get_or (vec_items c.args.self.now.counts.of) c.args.block 0 ≡ 1 = omega (arith, c.get-count.ensures, c.if-count-eq1.true) in
-    let e : vec_items c.read_page-page.new.self.counts.of ≡ set (vec_items c.args.self.now.counts.of) c.args.block 0 =
-    ap (λ k. vec_items k.of) c.read_page-page.ensures.counts ∙ c.set.ensures ∙ ap (set (vec_items c.args.self.now.counts.of) c.args.block) (omega (arith, c.if-count-eq1.true)) in
-    let gone = subst (λ m. Dropped (take c.loop-i.i ks) m (vec_items c.read_page-page.new.self.counts.of) (vec_items c.loop-i.self.counts.of)) c.read_page-page.ensures.kept c.loop-i.invariant.2 in
+pub loop-entry-preserved : goal.loop-entry-preserved
+loop-entry-preserved g t c =
+    let q : Meaning × List ℕ = c.read_page-page.new.self in
+    let xs : List Entry = c.deref-entry-items.result.now in
+    let ks : List ℕ = map (λ (e : Entry). e.value) xs in
+    let i = c.loop-entry.entry-index in
+    let kid : get_or ks i 0 ≡ c.entry-item.result.value = get_or-map (λ (e : Entry). e.value) xs i c.entry-item.result 0 c.loop-entry-test.true ∙ ap (λ (e : Entry). e.value) (sym c.entry-item.is) in
+    let lt : i < length ks = omega (arith, length-map xs (λ (e : Entry). e.value), c.loop-entry-test.true) in
+    let one_more : Dropped (get_or ks i 0 ∷ []) q.0 c.loop-entry.self.1 c.release.new.self.1
+    = subst (λ (y : ℕ). Dropped (y ∷ []) q.0 c.loop-entry.self.1 c.release.new.self.1) (sym kid)
+    (subst (λ (m : Meaning). Dropped (c.entry-item.result.value ∷ []) m c.loop-entry.self.1 c.release.new.self.1) c.loop-entry.invariant.kept c.release.ensures.dropped) in
     record {
-      sound = c.loop-i.invariant.0;
-      kept = c.loop-i.invariant.1 ∙ c.read_page-page.ensures.kept;
-      dropped = dropped_last c.args.block ks _ _ _ _ n e (ap kids_of (sym c.read_page-page.ensures.page))
-          (subst (λ xs. Dropped xs (d.meaning c.args.self.now.device) (vec_items c.read_page-page.new.self.counts.of) (vec_items c.loop-i.self.counts.of)) all gone);
+      kept = c.release.ensures.kept ∙ c.loop-entry.invariant.kept;
+      dropped = subst (λ (ys : List ℕ). Dropped ys q.0 q.1 c.release.new.self.1) (sym (take_more ks i 0 lt)) (dropped_push (take i ks) (get_or ks i 0) q.0 q.1 c.loop-entry.self.1 c.release.new.self.1 c.loop-entry.invariant.dropped one_more);
     }
 
-pub returns-else-count-eq1 : goal.returns-else-count-eq1
-returns-else-count-eq1 g t c =
-    let cs : List ℕ = vec_items c.args.self.now.counts.of in
-    let a = alive _ cs c.args.block c.args.level c.requires.held in
-    record {
-      sound = c.requires.sound;
-      kept = refl;
-      dropped = elim c.else-count-eq1.branch [
-        | else-count-eq1-via-then-count-eq1+else-level-gt0 w ↦ dropped_leaf c.args.block _ cs _ (omega (arith, c.get-count.ensures, w.if-count-eq1.true)) (c.set.ensures ∙ ap (set cs c.args.block) (omega (arith, w.if-count-eq1.true))) (omega (arith, c.requires.held.height, w.if-level-gt0.false))
-        | else-count-eq1-via-else-count-eq1 w ↦ dropped_one c.args.block (c.get-count.result - 1) _ cs _ c.set.ensures (omega (arith, c.get-count.ensures, a)) (omega (arith, c.get-count.ensures, a, w.if-count-eq1.false))
-      ];
-    }
+pub returns-after-loop-entry-clause-dropped : goal.returns-after-loop-entry-clause-dropped
+returns-after-loop-entry-clause-dropped g t c =
+    let s : Meaning × List ℕ = c.args.self.now in
+    let q : Meaning × List ℕ = c.read_page-page.new.self in
+    let xs : List Entry = c.deref-entry-items.result.now in
+    let ks : List ℕ = map (λ (e : Entry). e.value) xs in
+    let i = c.loop-entry.entry-index in
+    let f : Fell s c.args.block q xs = fell _ _ c.set.new.self.of.items s q c.args.block c.args.level c.get-count.result c.read_page-page.result xs c.self.view_is c.get-count.ensures c.if-count-eq1.true c.set.ensures c.read_page-page.ensures.kept
+    c.read_page-page.ensures.page c.deref-entry-items.ensures.0 c.requires.height c.if-level-gt0.true in
+    let all : take i ks ≡ ks = take_all i ks (omega (arith, length-map xs (λ (e : Entry). e.value), c.loop-entry-test.false)) in
+    let gone : Dropped ks s.0 q.1 c.loop-entry.self.1 = subst (λ (m : Meaning). Dropped ks m q.1 c.loop-entry.self.1) f.same (subst (λ (ys : List ℕ). Dropped ys q.0 q.1 c.loop-entry.self.1) all c.loop-entry.invariant.dropped) in
+    dropped_last c.args.block ks s.0 s.1 q.1 c.loop-entry.self.1 f.last f.less f.kids gone
+
+-- the store q after one reference to x is gone
+one_less : (m : Meaning) (cs ds : List ℕ) (s q : Meaning × List ℕ) (x count : ℕ) → (m, cs) ≡ s → count ≡ get_or cs x 0 → ds ≡ set cs x (count - 1) → q ≡ (m, ds) → (count ≡ get_or s.1 x 0) × (q.1 ≡ set s.1 x (count - 1))
+one_less m cs ds s q x count e n d k = (
+  n ∙ ap (λ (s : Meaning × List ℕ). get_or s.1 x 0) e,
+  ap (λ (q : Meaning × List ℕ). q.1) k ∙ d ∙ ap (λ (s : Meaning × List ℕ). set s.1 x (count - 1)) e,
+)
+
+pub returns-else-count-eq1-clause-dropped : goal.returns-else-count-eq1-clause-dropped
+returns-else-count-eq1-clause-dropped g t c =
+    let s : Meaning × List ℕ = c.args.self.now in
+    let x = c.args.block in
+    let k = c.get-count.result in
+    let cs' = c.else-count-eq1.self.1 in
+    let a : 0 < get_or s.1 x 0 = held_alive (block_at s.0) s.1 c.requires.others x c.requires.counted in
+    elim c.else-count-eq1.branch [
+      | else-count-eq1-via-then-count-eq1+else-level-gt0 w ↦
+          let r = one_less _ _ c.set.new.self.of.items s c.else-count-eq1.self x k c.self.view_is c.get-count.ensures c.set.ensures w.self-is in
+          dropped_leaf x s.0 s.1 cs' (omega (arith, r.0, w.if-count-eq1.true)) (r.1 ∙ ap (λ (k : ℕ). set s.1 x (k - 1)) w.if-count-eq1.true) (omega (arith, c.requires.height, w.if-level-gt0.false))
+      | else-count-eq1-via-else-count-eq1 w ↦
+          let r = one_less _ _ c.set.new.self.of.items s c.else-count-eq1.self x k c.self.view_is c.get-count.ensures c.set.ensures w.self-is in
+          dropped_one x (k - 1) s.0 s.1 cs' r.1 (omega (arith, r.0, a)) (omega (arith, r.0, a, w.if-count-eq1.false))
+    ]
