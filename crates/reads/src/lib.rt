@@ -1,0 +1,8 @@
+// Reading a tree on a store: the angle of a row, the angle at a speed, the rows from a speed on, and summaries.
+// A read changes nothing: neither what the device means nor the counts. docs/reading.md has what each reads.
+#![tactic(auto)]
+
+mod descent;
+mod lookup;
+
+pub use lookup::{at, get};
