@@ -1,11 +1,12 @@
 -- A block of a sound tree and its children.
-use Rattle.std.proofs.Common.{◌≡◌, ℕ, zero, suc, ◌<◌, ◌≤◌, List, [], ◌∷◌, ◌++◌, length, get_or, take, drop, Some, sym, refl, ap, ◌∙◌, subst, ap₂, not-suc-le-zero, arith, append_assoc, length-append}
+use Rattle.std.proofs.Common.{◌≡◌, ℕ, zero, suc, ◌<◌, ◌≤◌, List, [], ◌∷◌, ◌++◌, length, get_or, take, drop, Some, sym, refl, ap, ◌∙◌, subst, ap₂, not-suc-le-zero, arith, append_assoc, append-nil, take-append-drop, length-append}
 use Rattle.device.specs.Meaning.{Content}
 use Rattle.page.specs.Block.{Block, block_in}
-use Rattle.tree.specs.Node.{Every, map_e}
-use Rattle.tree.specs.Tree.{Pay, All, Cell, Span}
+use Rattle.tree.specs.Node.{flat, Every, map_e}
+use Rattle.tree.specs.Tree.{Rows, Pay, All, Cell, Span}
 use Rattle.tree.proofs.Puts.{enough, cell_asc, span_asc}
-use Rattle.tree.proofs.Over.{map_length}
+use Rattle.tree.proofs.Over.{map_length, map-append}
+use Rattle.tree.proofs.Segs.{flat_append}
 use Rattle.tree.proofs.Removes.{cell_le}
 use Rattle.model.specs.TreeBlocks.{entries_in, pay_at, payload, block_of, Each}
 use Rattle.model.proofs.Frames.{each_map}
@@ -79,6 +80,12 @@ module _ (c : ℕ → Content) where
       ap (λ (z : List (ℕ × ℕ)). rows_in c l (inside e.1) ++ z) (split l r i (omega arith))
       ∙ sym (append_assoc (rows_in c l (inside e.1)) (rows_in c (suc l) (take i r)) (rows_in c l (inside (to r i)) ++ rows_in c (suc l) (drop (suc i) r)))
 
+  pub rows_more : (l : ℕ) (es : List (ℕ × ℕ)) (i : ℕ) → i < length es → rows_in c (suc l) (take (suc i) es) ≡ rows_in c (suc l) (take i es) ++ rows_in c l (inside (to es i))
+  rows_more l [] i h = absurd (not-suc-le-zero h)
+  rows_more l (e ∷ r) zero h = append-nil (rows_in c l (inside e.1))
+  rows_more l (e ∷ r) (suc i) h =
+      ap (λ (z : List (ℕ × ℕ)). rows_in c l (inside e.1) ++ z) (rows_more l r i (omega arith)) ∙ sym (append_assoc (rows_in c l (inside e.1)) (rows_in c (suc l) (take i r)) (rows_in c l (inside (to r i))))
+
   pub child : (l : ℕ) (es : List (ℕ × ℕ)) (i : ℕ) → i < length es → Sound c (suc l) es → Kid l (to es i)
   child l es i h p =
       let q = entry l p.low p.high es i h p.below p.span in
@@ -133,3 +140,9 @@ module _ (c : ℕ → Content) where
 
   pub full_rows : (x : ℕ) → FullAt c x → 1 ≤ length (rows_at c x)
   full_rows x f = rw f.stands (some_rows f.block.level f.block.entries f.sound f.some)
+
+  -- the rows of the entries before a place, and those from it on
+  pub rows_split : (l : ℕ) (es : List (ℕ × ℕ)) (k : ℕ) → rows_in c l es ≡ rows_in c l (take k es) ++ rows_in c l (drop k es)
+  rows_split l es k =
+      ap (rows_in c l) (sym (take-append-drop k es)) ∙ ap (flat (Rows ℕ ℕ l)) (map-append (pay_at c l) (take k es) (drop k es))
+      ∙ flat_append (Rows ℕ ℕ l) (held c l (take k es)) (held c l (drop k es))

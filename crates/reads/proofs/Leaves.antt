@@ -56,3 +56,11 @@ stop_up s e rs h = rw (lt-ltb s e.0 h) refl
 
 pub stop_past : (s : ℕ) (e : ℕ × ℤ) (rs : List (ℕ × ℤ)) → s < e.0 → past s (e ∷ rs) ≡ Some e
 stop_past s e rs h = rw (lt-ltb s e.0 h) refl
+
+-- the entry that a loop over a leaf's entries is at
+pub record At (xs : List Entry) (i : ℕ) (e : Entry) : Type 0 where
+  pub within : i < length xs
+  pub is : e ≡ get_or xs i e
+
+pub at_item : (xs ys : List Entry) (i : ℕ) (e : Entry) → ys ≡ xs → i < length ys → e ≡ get_or ys i e → At xs i e
+at_item xs ys i e q h k = record { within = omega (arith, ap length q); is = k ∙ ap (λ (z : List Entry). get_or z i e) q }

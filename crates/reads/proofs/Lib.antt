@@ -5,3 +5,5 @@ pub mod Pages
 pub mod Near
 pub mod Good
 pub mod Leaves
+pub mod Totals
+pub mod Written

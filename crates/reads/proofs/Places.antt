@@ -1,15 +1,20 @@
 -- A descent, block by block.
-use Rattle.std.proofs.Common.{◌≡◌, ℕ, zero, suc, ◌<◌, ◌≤◌, ◌⊎◌, List, [], ◌∷◌, ◌++◌, length, take, drop, Some, None, Option, inl, inr, sym, refl, ap, ◌∙◌, subst, not-suc-le-zero, arith, append_assoc, append-nil}
+use Rattle.std.proofs.Common.{◌≡◌, ℕ, zero, suc, ◌+◌, ◌<◌, ◌≤◌, ◌⊎◌, List, [], ◌∷◌, ◌++◌, length, take, drop, ℤ, Some, None, Option, inl, inr, sym, refl, ap, ◌∙◌, subst, not-suc-le-zero, arith, append_assoc, append-nil, length-drop}
+use Rattle.std.proofs.lemmas.List.{get_or-drop}
 use Rattle.std.proofs.lemmas.Bool.{cases_lt}
 use Rattle.std.specs.Option.{option_or}
 use Rattle.device.specs.Meaning.{Content}
 use Rattle.page.specs.Block.{Block, block_in, level_of}
-use Rattle.model.specs.TreeBlocks.{Each}
+use Rattle.model.specs.TreeBlocks.{angle, Each}
 use Rattle.reads.specs.Sound.{Valid, rows_in, rows_at, Sound, FullAt}
 use Rattle.reads.specs.Descent.{child, child_before, Ends, Begins, Found}
+use Rattle.reads.specs.Lists.{due}
 use Rattle.reads.proofs.Lists.{each_append}
+use Rattle.reads.proofs.Written.{due_append, due_below}
+use Rattle.tree.specs.Node.{map_e}
+use Rattle.tree.proofs.Over.{map-append}
 use Rattle.reads.proofs.Children as kids
-use Rattle.reads.proofs.Children.{inside, key, to, Kid, leaf, split, rows_before, rows_after}
+use Rattle.reads.proofs.Children.{inside, key, to, Kid, leaf, split, rows_more, rows_split, rows_before, rows_after}
 
 module _ (c : ℕ → Content) where
   pub found_leaf : (x s : ℕ) (es : List (ℕ × ℕ)) → block_in (c x) ≡ Some (record { level = 0; entries = es }) → Sound c 0 es → Found c x s es None None
@@ -40,14 +45,8 @@ module _ (c : ℕ → Content) where
   ends_take l es zero h p = refl
   ends_take l es (suc i) h p =
       let k = kids.child c l es i (omega arith) p in
-      let e : rows_in c (suc l) (take (suc i) es) ≡ rows_in c (suc l) (take i es) ++ rows_at c (to c es i) = last_of es i (omega arith) ∙ ap (λ (z : List (ℕ × ℕ)). rows_in c (suc l) (take i es) ++ z) (sym k.rows) in
+      let e : rows_in c (suc l) (take (suc i) es) ≡ rows_in c (suc l) (take i es) ++ rows_at c (to c es i) = rows_more c l es i (omega arith) ∙ ap (λ (z : List (ℕ × ℕ)). rows_in c (suc l) (take i es) ++ z) (sym k.rows) in
       rw (child_is es i (omega arith)) (k.full, (rows_in c (suc l) (take i es), e))
-    where
-      last_of : (es : List (ℕ × ℕ)) (i : ℕ) → i < length es → rows_in c (suc l) (take (suc i) es) ≡ rows_in c (suc l) (take i es) ++ rows_in c l (inside c (to c es i))
-      last_of [] i h = absurd (not-suc-le-zero h)
-      last_of (e ∷ r) zero h = append-nil (rows_in c l (inside c e.1))
-      last_of (e ∷ r) (suc i) h =
-          ap (λ (z : List (ℕ × ℕ)). rows_in c l (inside c e.1) ++ z) (last_of r i (omega arith)) ∙ sym (append_assoc (rows_in c l (inside c e.1)) (rows_in c (suc l) (take i r)) (rows_in c l (inside c (to c r i))))
 
   -- the rows after a place begin with those of the child there
   begins_drop : (l : ℕ) (es : List (ℕ × ℕ)) (i : ℕ) → Sound c (suc l) es → (i < length es) ⊎ (length es ≤ i) → Begins c (child es i) (rows_in c (suc l) (drop i es))
@@ -117,3 +116,21 @@ module _ (c : ℕ → Content) where
       → (found : List (ℕ × ℕ)) (left right : Option ℕ) → Found c (to c es i) s found left right → Found c x s found (option_or left (child_before es i)) (option_or right (child es (suc i)))
   found_above zero x s es i u = absurd (omega arith)
   found_above (suc l) x s es i u = found_index l x s es i
+
+  -- going along the children from place k on: one child more
+  pub rows_next : (n : ℕ) (es : List (ℕ × ℕ)) (k i : ℕ) → 0 < n → k + i < length es → Sound c n es → rows_in c n (take (suc i) (drop k es)) ≡ rows_in c n (take i (drop k es)) ++ rows_at c (to c es (k + i))
+  rows_next zero es k i u h p = absurd (omega arith)
+  rows_next (suc l) es k i u h p =
+      let q = kids.child c l es (k + i) h p in
+      let same : to c (drop k es) i ≡ to c es (k + i) = ap (λ (e : ℕ × ℕ). e.1) (get_or-drop k es i (0, 0)) in
+      rows_more c l (drop k es) i (omega (arith, length-drop k es))
+      ∙ ap (λ (y : ℕ). rows_in c (suc l) (take i (drop k es)) ++ rows_in c l (inside c y)) same ∙ ap (λ (z : List (ℕ × ℕ)). rows_in c (suc l) (take i (drop k es)) ++ z) (sym q.rows)
+
+  -- the rows from a speed on are those of the child that covers it and of those after it
+  pub due_from : (n s : ℕ) (es : List (ℕ × ℕ)) (k : ℕ) → 0 < n → k < length es → Sound c n es → ((j : ℕ) → j < k → key c es (suc j) ≤ s) → due s (map_e angle (rows_in c n es)) ≡ due s (map_e angle (rows_in c n (drop k es)))
+  due_from zero s es k u h p past = absurd (omega arith)
+  due_from (suc l) s es k u h p past =
+      let xs = rows_in c (suc l) (take k es) in
+      let ys = rows_in c (suc l) (drop k es) in
+      ap (λ (z : List (ℕ × ℕ)). due s (map_e angle z)) (rows_split c (suc l) es k) ∙ ap (due s) (map-append angle xs ys) ∙ due_append s (map_e angle xs) (map_e angle ys)
+      ∙ ap (λ (z : List (ℕ × ℤ)). z ++ due s (map_e angle ys)) (due_below angle s xs (rows_before c l s es k h p past))

@@ -3,6 +3,10 @@
 #![tactic(auto)]
 
 mod descent;
+mod listing;
 mod lookup;
+mod summing;
 
+pub use listing::list;
 pub use lookup::{at, get};
+pub use summing::summary;

@@ -1,26 +1,18 @@
-use Rattle.std.proofs.Common.{◌≡◌, ℕ, ◌+◌, ◌<◌, ◌≤◌, List, length, get_or, drop, ℤ, Some, sym, ap, ◌∙◌, arith}
+use Rattle.std.proofs.Common.{ℕ, ◌+◌, ◌<◌, ◌≤◌, List, length, drop, ℤ, Some, sym, ap, ◌∙◌, arith}
 use Rattle.std.proofs.lemmas.List.{at_drop_all}
 use Rattle.std.specs.Option.{option_map}
 use Rattle.table.specs.Angles.{later, up_to, past}
 use Rattle.table.specs.Rows.{pair_of}
 use Rattle.page.specs.declared.page.Entry.{Entry}
-use Rattle.reads.proofs.Leaves.{rows, row, valid_at, rows_from, next_up, next_past, stop_up, stop_past}
+use Rattle.reads.proofs.Leaves.{rows, row, at_item, valid_at, rows_from, next_up, next_past, stop_up, stop_past}
 use Rattle.reads.proofs.lookup.around.Goals as goal
-
--- the entry that the loop is at
-record Here (xs ys : List Entry) (i : ℕ) (e : Entry) : Type 0 where
-  within : i < length xs
-  is : e ≡ get_or xs i e
-
-here : (xs ys : List Entry) (i : ℕ) (e : Entry) → ys ≡ xs → i < length ys → e ≡ get_or ys i e → Here xs ys i e
-here xs ys i e q h k = record { within = omega (arith, ap length q); is = k ∙ ap (λ (z : List Entry). get_or z i e) q }
 
 pub row_of-row-requires : goal.row_of-row-requires
 row_of-row-requires c =
     let xs = c.args.leaf.now.entries.items in
     let i = c.loop-entry.entry-index in
     let e = c.entry-item.result in
-    let h = here xs c.deref-entry-items.result.now i e c.deref-entry-items.ensures.0 c.loop-entry-test.true c.entry-item.is in
+    let h = at_item xs c.deref-entry-items.result.now i e c.deref-entry-items.ensures.0 c.loop-entry-test.true c.entry-item.is in
     valid_at xs i e c.requires h.within h.is
 
 pub loop-entry-preserved : goal.loop-entry-preserved
@@ -31,7 +23,7 @@ loop-entry-preserved c =
     let e = c.entry-item.result in
     let b = option_map pair_of c.loop-entry.before in
     let rest = rows (drop (i + 1) xs) in
-    let h = here xs c.deref-entry-items.result.now i e c.deref-entry-items.ensures.0 c.loop-entry-test.true c.entry-item.is in
+    let h = at_item xs c.deref-entry-items.result.now i e c.deref-entry-items.ensures.0 c.loop-entry-test.true c.entry-item.is in
     let r = rows_from xs i e h.within h.is in
     let low : e.speed ≤ s = omega (arith, ap (λ (q : ℕ × ℤ). q.0) c.row_of-row.ensures, c.if-row-speed.false) in
     record {
@@ -47,7 +39,7 @@ returns-then-row-speed c =
     let e = c.entry-item.result in
     let b = option_map pair_of c.loop-entry.before in
     let rest = rows (drop (i + 1) xs) in
-    let h = here xs c.deref-entry-items.result.now i e c.deref-entry-items.ensures.0 c.loop-entry-test.true c.entry-item.is in
+    let h = at_item xs c.deref-entry-items.result.now i e c.deref-entry-items.ensures.0 c.loop-entry-test.true c.entry-item.is in
     let r = rows_from xs i e h.within h.is in
     let high : s < e.speed = omega (arith, ap (λ (q : ℕ × ℤ). q.0) c.row_of-row.ensures, c.if-row-speed.true) in
     record {
