@@ -7,3 +7,4 @@ pub mod Good
 pub mod Leaves
 pub mod Totals
 pub mod Written
+pub mod Planted

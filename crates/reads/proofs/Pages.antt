@@ -82,7 +82,7 @@ next_of m x p k i e xs h u q l is =
     let at : (j : ℕ) → rows_in c p.level (map pair (take j xs)) ≡ rows_in c p.level (take j (drop k (entries p))) = λ (j : ℕ). ap (rows_in c p.level) (sym (take-map pair j xs) ∙ ap (take j) es) in
     let one : rows_in c p.level (map pair (take (i + 1) xs)) ≡ rows_in c p.level (map pair (take i xs)) ++ rows_at c e.value
     = at (i + 1) ∙ ap (λ j. rows_in c p.level (take j (drop k (entries p)))) (add-one i) ∙ rows_next c p.level (entries p) k i u (omega (arith, entries_length p, within)) h.sound
-      ∙ ap (λ (z : List (ℕ × ℕ)). z ++ rows_at c (to c (entries p) (k + i))) (sym (at i)) ∙ ap (λ (y : ℕ). rows_in c p.level (map pair (take i xs)) ++ rows_at c y) (d.is ∙ here) in
+    ∙ ap (λ (z : List (ℕ × ℕ)). z ++ rows_at c (to c (entries p) (k + i))) (sym (at i)) ∙ ap (λ (y : ℕ). rows_in c p.level (map pair (take i xs)) ++ rows_at c y) (d.is ∙ here) in
     record {
       full = subst (FullAt c) here d.full;
       lower = omega (arith, d.lower, ap (λ (y : ℕ). level_of (block_at m y)) here);

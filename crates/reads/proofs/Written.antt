@@ -110,7 +110,7 @@ both n k rs qs first out new a e b f =
     record {
       count = omega (arith, a, b, ap length rest, length-drop n out, size, length-append rs qs);
       listed = put_rest n out new (omega arith) ∙ ap (λ (z : List Pair). take n out ++ z) (f ∙ ap (written qs) rest)
-        ∙ ap (λ (z : List Pair). take n z ++ written qs (drop n z)) e ∙ sym (written_more n rs qs first a);
+          ∙ ap (λ (z : List Pair). take n z ++ written qs (drop n z)) e ∙ sym (written_more n rs qs first a);
     }
 
 pub empty_slice : (rs : List (ℕ × ℤ)) (out : List Pair) → eqb (length out) 0 ≡ true → out ≡ written rs out

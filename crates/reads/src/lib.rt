@@ -10,3 +10,6 @@ mod summing;
 pub use listing::list;
 pub use lookup::{at, get};
 pub use summing::summary;
+
+#[cfg(test)]
+mod tests;

@@ -38,7 +38,7 @@ fn look_in(leaf: &Page, speed: u32) -> Option<i32>
 
 // The angle of the row of a speed, if there is one. Reads one block a level.
 pub fn get<D: Device>(store: &mut Store<D>, root: Root, speed: u32) -> Option<i32>
-    requires good { GoodOn store.old.0 (root.height, root.block) }
+    requires { GoodOn store.old.0 (root.height, root.block) }
     ensures kept { store.new ≡ store.old }
     ensures answer { result ≡ look speed (rows_on store.old.0 (root.height, root.block)) }
 {
@@ -83,7 +83,7 @@ fn nearest<D: Device>(
 // The angle at a speed, if there is a row. The leaf that covers the speed has a row on one side of it at least, so of the other
 // blocks beside the way down at most one is gone down: at most two blocks a level are read.
 pub fn at<D: Device>(store: &mut Store<D>, root: Root, speed: u32) -> Option<i32>
-    requires good { GoodOn store.old.0 (root.height, root.block) }
+    requires { GoodOn store.old.0 (root.height, root.block) }
     ensures kept { store.new ≡ store.old }
     ensures answer { result ≡ angle_at speed (rows_on store.old.0 (root.height, root.block)) }
 {

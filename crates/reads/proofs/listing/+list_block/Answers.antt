@@ -81,12 +81,12 @@ loop-entry-preserved g t c =
     let new : Meaning × List ℕ → List (ℕ × ℤ) = λ (q : Meaning × List ℕ). due s (map_e angle (rows_at (current_at q.0) e.value)) in
     let more : due s (map_e angle (rows_in (current_at m) lv (map pair (take (i + 1) xs)))) ≡ old ++ new c.args.store.now
     = ap (λ (z : List (ℕ × ℕ)). due s (map_e angle z)) n.more
-      ∙ ap (due s) (map-append angle (rows_in (current_at m) lv (map pair (take i xs))) (rows_at (current_at m) e.value))
-      ∙ due_append s (map_e angle (rows_in (current_at m) lv (map pair (take i xs)))) (map_e angle (rows_at (current_at m) e.value)) in
+    ∙ ap (due s) (map-append angle (rows_in (current_at m) lv (map pair (take i xs))) (rows_at (current_at m) e.value))
+    ∙ due_append s (map_e angle (rows_in (current_at m) lv (map pair (take i xs)))) (map_e angle (rows_at (current_at m) e.value)) in
     let mid : List Pair = take (length c.loop-entry.out - c.loop-entry.n) (drop c.loop-entry.n c.loop-entry.out) in
     let b = both c.loop-entry.n c.list_block-n.result old (new c.args.store.now) c.args.out.now c.loop-entry.out c.list_block-n.new.out c.loop-entry.invariant.count c.loop-entry.invariant.listed
-      (c.list_block-n.ensures.count ∙ ap (λ (q : Meaning × List ℕ). min (length mid) (length (new q))) c.loop-entry.invariant.kept)
-      (c.list_block-n.ensures.listed ∙ ap (λ (q : Meaning × List ℕ). written (new q) mid) c.loop-entry.invariant.kept) in
+    (c.list_block-n.ensures.count ∙ ap (λ (q : Meaning × List ℕ). min (length mid) (length (new q))) c.loop-entry.invariant.kept)
+    (c.list_block-n.ensures.listed ∙ ap (λ (q : Meaning × List ℕ). written (new q) mid) c.loop-entry.invariant.kept) in
     record {
       kept = c.list_block-n.ensures.kept ∙ c.loop-entry.invariant.kept;
       count = b.count ∙ ap (λ (z : List (ℕ × ℤ)). min (length c.args.out.now) (length z)) (sym more);

@@ -69,10 +69,10 @@ loop-entry-preserved c =
     let f : Filled (due s (rows (take i xs))) first n out = record { count = c.loop-entry.invariant.count; listed = c.loop-entry.invariant.listed } in
     let more = due s (rows (take (i + 1) xs)) in
     let done : Filled more first c.if-entry-speed.n c.if-entry-speed.out = elim c.if-entry-speed.branch [
-      then-entry-speed+then-n-out w ↦ rw (w.n-is, w.out-is) (push s xs i e h first out n w.if-entry-speed.true f w.if-n-out.true w.from.result
+      | then-entry-speed+then-n-out w ↦ rw (w.n-is, w.out-is) (push s xs i e h first out n w.if-entry-speed.true f w.if-n-out.true w.from.result
           (same_pair _ (pair_for (row e)) (w.from.ensures.0 ∙ ap (λ (r : ℕ × ℤ). r.0) w.row_of.ensures) (w.from.ensures.1 ∙ ap (λ (r : ℕ × ℤ). r.1) w.row_of.ensures)))
       | else-entry-speed w ↦ rw (w.n-is, w.out-is) (elim w.else-entry-speed.branch [
-        else-entry-speed-via-then-entry-speed+else-n-out v ↦ stop s xs i e h first out n v.if-entry-speed.true f v.if-n-out.false
+        | else-entry-speed-via-then-entry-speed+else-n-out v ↦ stop s xs i e h first out n v.if-entry-speed.true f v.if-n-out.false
         | else-entry-speed-via-else-entry-speed v ↦ skip s xs i e h first out n v.if-entry-speed.false f
       ])
     ] in

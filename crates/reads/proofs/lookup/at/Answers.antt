@@ -13,7 +13,7 @@ use Rattle.reads.proofs.Near.{beside_left, beside_right, up_by, past_by, past_al
 use Rattle.reads.proofs.lookup.at.Goals as goal
 
 pub descend-place-requires : goal.descend-place-requires
-descend-place-requires g c = (start c.args.store.now.0 c.args.root.height c.args.root.block c.requires.good).sound
+descend-place-requires g c = (start c.args.store.now.0 c.args.root.height c.args.root.block c.requires).sound
 
 pub around-requires : goal.around-requires
 around-requires g c = c.descend-place.ensures.found.valid
@@ -41,7 +41,7 @@ returns-in-Some-Some-clause-answer g c =
     let f = c.descend-place.ensures.found in
     let up : up_to s (map_e angle leaf) ≡ Some (pair_of c.in-Some-Some.before) = sym c.around.ensures.before ∙ ap (option_map pair_of) c.in-Some-Some.is-0 in
     let first : past s (map_e angle leaf) ≡ Some (pair_of c.in-Some-Some.after) = sym c.around.ensures.after ∙ ap (option_map pair_of) c.in-Some-Some.is-1 in
-    by_rows _ (map_e angle (rows_at (current_at m) x)) s (Some (pair_of c.in-Some-Some.before)) (Some (pair_of c.in-Some-Some.after)) c.angle_by.result c.angle_by.ensures (start m c.args.root.height x c.requires.good).rows
+    by_rows _ (map_e angle (rows_at (current_at m) x)) s (Some (pair_of c.in-Some-Some.before)) (Some (pair_of c.in-Some-Some.after)) c.angle_by.result c.angle_by.ensures (start m c.args.root.height x c.requires).rows
     (up_by angle (current_at m) s x leaf _ _ f ∙ rw up refl) (past_by angle (current_at m) s x leaf _ _ f ∙ rw first refl)
 
 pub returns-in_default-None-clause-answer : goal.returns-in_default-None-clause-answer
@@ -55,7 +55,7 @@ returns-in_default-None-clause-answer g c =
     let first : past s (map_e angle leaf) ≡ None = sym c.around.ensures.after ∙ ap (option_map pair_of) c.in_default-None.is-1 in
     let near : past s (map_e angle (rows_beside (current_at m) right)) ≡ option_map pair_of c.nearest.result.1
     = sym (c.nearest.ensures.after ∙ ap (λ (q : Meaning × List ℕ). past s (map_e angle (rows_beside (current_at q.0) right))) c.descend-place.ensures.kept) in
-    by_rows _ _ s _ _ c.angle_by-in_default-None.result c.angle_by-in_default-None.ensures (start m c.args.root.height x c.requires.good).rows
+    by_rows _ _ s _ _ c.angle_by-in_default-None.result c.angle_by-in_default-None.ensures (start m c.args.root.height x c.requires).rows
     (up_alone angle (current_at m) s x leaf _ _ f first ∙ sym c.around.ensures.before) (past_by angle (current_at m) s x leaf _ _ f ∙ rw first near)
 
 pub returns-in-None-default-clause-answer : goal.returns-in-None-default-clause-answer
@@ -69,5 +69,5 @@ returns-in-None-default-clause-answer g c =
     let up : up_to s (map_e angle leaf) ≡ None = sym c.around.ensures.before ∙ ap (option_map pair_of) c.in-None-default.is-0 in
     let near : up_to s (map_e angle (rows_beside (current_at m) left)) ≡ option_map pair_of c.nearest-in-None-default.result.0
     = sym (c.nearest-in-None-default.ensures.before ∙ ap (λ (q : Meaning × List ℕ). up_to s (map_e angle (rows_beside (current_at q.0) left))) c.descend-place.ensures.kept) in
-    by_rows _ _ s _ _ c.angle_by-in-None-default.result c.angle_by-in-None-default.ensures (start m c.args.root.height x c.requires.good).rows
+    by_rows _ _ s _ _ c.angle_by-in-None-default.result c.angle_by-in-None-default.ensures (start m c.args.root.height x c.requires).rows
     (up_by angle (current_at m) s x leaf _ _ f ∙ rw up near) (past_alone angle (current_at m) s x leaf _ _ f up ∙ sym c.around.ensures.after)

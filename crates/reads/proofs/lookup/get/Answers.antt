@@ -10,7 +10,7 @@ use Rattle.std.specs.Option.{option_map}
 use Rattle.reads.proofs.lookup.get.Goals as goal
 
 pub descend-place-requires : goal.descend-place-requires
-descend-place-requires g c = (start c.args.store.now.0 c.args.root.height c.args.root.block c.requires.good).sound
+descend-place-requires g c = (start c.args.store.now.0 c.args.root.height c.args.root.block c.requires).sound
 
 pub look_in-requires : goal.look_in-requires
 look_in-requires g c = c.descend-place.ensures.found.valid
@@ -20,6 +20,6 @@ returns-clause-answer g c =
     let m = c.args.store.now.0 in
     let s = c.args.speed in
     let leaf = entries c.descend-place.result.leaf in
-    let x = start m c.args.root.height c.args.root.block c.requires.good in
+    let x = start m c.args.root.height c.args.root.block c.requires in
     let f = c.descend-place.ensures.found in
     c.look_in.ensures ∙ look_map angle s leaf ∙ ap (option_map angle) (sym (look_found (current_at m) c.args.root.block s leaf _ _ f)) ∙ sym (look_map angle s (rows_at (current_at m) c.args.root.block)) ∙ ap (look s) (sym x.rows)

@@ -35,8 +35,7 @@ sum_block-requires g t c κs within =
     let p = c.read_page-page.result in
     let e = c.entry-item.result in
     let n = next_of m c.args.block p 0 c.loop-entry.entry-index e c.deref-entry-items.result.now (here m c.args.block p c.requires c.read_page-page.ensures.page) (omega (arith, c.if-page-eq0.false)) c.deref-entry-items.ensures.0 c.loop-entry-test.true c.entry-item.is in
-    let same : c.loop-entry.store.0 ≡ m = ap (λ (q : Meaning × List ℕ). q.0) c.loop-entry.invariant.kept in
-    (
+    let same : c.loop-entry.store.0 ≡ m = ap (λ (q : Meaning × List ℕ). q.0) c.loop-entry.invariant.kept in (
       omega (arith, c.decreases, n.lower, ap (λ (z : Meaning). level_of (block_at z e.value)) same),
       (within.0, (within.1, subst (λ (z : Meaning). SoundAt (current_at z) e.value) (sym same) (of_full m e.value n.full))),
     )
@@ -58,7 +57,7 @@ loop-entry-preserved g t c =
     record {
       kept = c.sum_block.ensures.kept ∙ c.loop-entry.invariant.kept;
       sum = c.join-sum.ensures ∙ ap₂ s.joined c.loop-entry.invariant.sum part
-        ∙ sym (total_append s.none s.joined w.none_before w.none_after w.associates s.value_of before (map_e angle (rows_at (current_at m) e.value))) ∙ ap (total s.none s.joined s.value_of) (sym more);
+          ∙ sym (total_append s.none s.joined w.none_before w.none_after w.associates s.value_of before (map_e angle (rows_at (current_at m) e.value))) ∙ ap (total s.none s.joined s.value_of) (sym more);
     }
 
 pub returns-clause-answer : goal.returns-clause-answer
@@ -72,4 +71,4 @@ returns-clause-answer g t c =
     = ap (map pair) (take_all c.loop-entry.entry-index xs c.loop-entry-test.false ∙ c.deref-entry-items.ensures.0) in
     c.loop-entry.invariant.sum
     ∙ ap (λ (z : List (ℕ × ℕ)). total s.none s.joined s.value_of (map_e angle z))
-      (ap (rows_in (current_at m) lv) all ∙ sym (page_rows m c.args.block p (here m c.args.block p c.requires c.read_page-page.ensures.page)))
+    (ap (rows_in (current_at m) lv) all ∙ sym (page_rows m c.args.block p (here m c.args.block p c.requires c.read_page-page.ensures.page)))
