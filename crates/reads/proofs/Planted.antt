@@ -1,5 +1,5 @@
 -- A tree of two leaves that was written block by block.
-use Rattle.std.proofs.Common.{◌≡◌, ℕ, ◌+◌, ◌<◌, ◌≤◌, List, [], ◌∷◌, length, get_or, true, cond, Some, Option, sym, refl, ap, ◌∙◌, ap₂, subst, length-set, arith, rules}
+use Rattle.std.proofs.Common.{◌≡◌, ℕ, ◌+◌, ◌<◌, ◌≤◌, List, [], ◌∷◌, get_or, Some, Option, refl, ap, ◌∙◌, ap₂, length-set, arith, rules}
 use Rattle.device.specs.Meaning.{Meaning, Cell, blocks_of, current_at, written}
 use Rattle.device.proofs.Choices.{write_at, write_off}
 use Rattle.page.specs.Block.{Block, block_in, encode, Layout}
@@ -8,7 +8,7 @@ use Rattle.page.specs.declared.page.Page.{Page}
 use Rattle.page.specs.declared.page.Entry.{Entry}
 use Rattle.page.proofs.Exact.{back}
 use Rattle.page.proofs.Pages.{entries_length, entries_at}
-use Rattle.model.specs.TreeBlocks.{Good, tree_at}
+use Rattle.model.specs.TreeBlocks.{tree_at}
 use Rattle.reads.specs.Rows.{GoodOn}
 
 nought : Entry

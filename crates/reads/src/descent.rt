@@ -49,11 +49,11 @@ pub fn descend<D: Device>(store: &mut Store<D>, block: u32, speed: u32) -> Place
         };
     }
     let i = page.covering(speed);
-    let (left, right) = beside(&page, i);
-    let place = descend(store, page.entries[i].value, speed);
+    let (before, after) = beside(&page, i);
+    let Place { leaf, left, right } = descend(store, page.entries[i].value, speed);
     Place {
-        leaf: place.leaf,
-        left: place.left.or(left),
-        right: place.right.or(right),
+        leaf,
+        left: left.or(before),
+        right: right.or(after),
     }
 }

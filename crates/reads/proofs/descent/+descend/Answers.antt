@@ -26,8 +26,8 @@ covering-i-requires g t c =
     let h = here m c.args.block p c.requires c.read_page-page.ensures.page in
     omega (arith, entries_length p, some_entries (current_at m) p.level (entries p) (omega (arith, c.if-page-eq0.false)) h.sound)
 
-pub descend-place-requires : goal.descend-place-requires
-descend-place-requires g t c κs within =
+pub descend-leaf-requires : goal.descend-leaf-requires
+descend-leaf-requires g t c κs within =
     let m = c.args.store.now.0 in
     let n = c.read_page-page.new.self.0 in
     let p = c.read_page-page.result in
@@ -42,12 +42,12 @@ returns-clause-found g t c =
     let p = c.read_page-page.result in
     let i = c.covering-i.result in
     let y = (get_or c.deref.result.now i c.index-deref-i.result).value in
-    let leaf = entries c.descend-place.result.leaf in
+    let leaf = entries c.descend-leaf.result.leaf in
     let h = here m c.args.block p c.requires c.read_page-page.ensures.page in
     let up : 0 < p.level = omega (arith, c.if-page-eq0.false) in
     let k = child_of m c.args.block p i c.index-deref-i.result c.deref.result.now h up c.deref.ensures.0 c.covering-i.ensures.within in
-    let f : Found (current_at m) y c.args.speed leaf c.descend-place.result.left c.descend-place.result.right
-    = subst (λ (q : Meaning × List ℕ). Found (current_at q.0) y c.args.speed leaf c.descend-place.result.left c.descend-place.result.right) c.read_page-page.ensures.kept c.descend-place.ensures.found in
-    rw (c.or.ensures, c.or-2.ensures, c.beside-left.ensures.left, c.beside-left.ensures.right)
+    let f : Found (current_at m) y c.args.speed leaf c.descend-leaf.result.left c.descend-leaf.result.right
+    = subst (λ (q : Meaning × List ℕ). Found (current_at q.0) y c.args.speed leaf c.descend-leaf.result.left c.descend-leaf.result.right) c.read_page-page.ensures.kept c.descend-leaf.ensures.found in
+    rw (c.or.ensures, c.or-2.ensures, c.beside-before.ensures.left, c.beside-before.ensures.right)
     (found_above (current_at m) p.level c.args.block c.args.speed (entries p) i up h.stands h.sound (omega (arith, entries_length p, c.covering-i.ensures.within)) c.covering-i.ensures.past (λ q. c.covering-i.ensures.high (omega (arith, entries_length p, q)))
-    leaf c.descend-place.result.left c.descend-place.result.right (subst (λ (z : ℕ). Found (current_at m) z c.args.speed leaf c.descend-place.result.left c.descend-place.result.right) (sym k.is) f))
+    leaf c.descend-leaf.result.left c.descend-leaf.result.right (subst (λ (z : ℕ). Found (current_at m) z c.args.speed leaf c.descend-leaf.result.left c.descend-leaf.result.right) (sym k.is) f))

@@ -15,9 +15,6 @@ use Rattle.reads.proofs.lookup.at.Goals as goal
 pub descend-place-requires : goal.descend-place-requires
 descend-place-requires g c = (start c.args.store.now.0 c.args.root.height c.args.root.block c.requires).sound
 
-pub around-requires : goal.around-requires
-around-requires g c = c.descend-place.ensures.found.valid
-
 pub nearest-requires : goal.nearest-requires
 nearest-requires g c =
     subst (λ (q : Meaning × List ℕ). Beside (current_at q.0) c.args.speed c.descend-place.result.right) (sym c.descend-place.ensures.kept)

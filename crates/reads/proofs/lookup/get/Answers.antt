@@ -12,9 +12,6 @@ use Rattle.reads.proofs.lookup.get.Goals as goal
 pub descend-place-requires : goal.descend-place-requires
 descend-place-requires g c = (start c.args.store.now.0 c.args.root.height c.args.root.block c.requires).sound
 
-pub look_in-requires : goal.look_in-requires
-look_in-requires g c = c.descend-place.ensures.found.valid
-
 pub returns-clause-answer : goal.returns-clause-answer
 returns-clause-answer g c =
     let m = c.args.store.now.0 in

@@ -14,4 +14,4 @@ returns g c =
     let path = ap at c.link-3.ensures ∙ ap (λ (z : Meaning). after z 4 (view r)) (ap at c.link-2.ensures ∙ ap (λ (z : Meaning). after z 3 (view q)) (ap at c.link.ensures)) in
     subst (λ (z : Meaning). GoodOn z (2, 4)) (sym path)
     (planted c.args.store.now.0 p q r (record { wide = c.requires.wide.0; blocks = c.requires.blocks; endless = c.requires.endless })
-        c.leaf.ensures.level c.leaf.ensures.rows c.leaf-2.ensures.level c.leaf-2.ensures.rows c.new.ensures.level c.new.ensures.these)
+    c.leaf.ensures.level c.leaf.ensures.rows c.leaf-2.ensures.level c.leaf-2.ensures.rows c.new.ensures.level c.new.ensures.these)
