@@ -12,7 +12,7 @@ use memory::Memory;
 use page::page::{Entry, Page};
 use page::roots::Root;
 use std::test::Fail;
-use table::{Count, Pair, Span, Sum};
+use table::{Count, Extent, Pair, Span, Sum};
 
 fn row(speed: u32, payload: u32) -> Entry
     requires { (speed ≤ 10000) × (payload ≤ 18000) }
@@ -114,11 +114,11 @@ fn two_leaves(rt: HostRuntime) -> Result<(), Fail> {
     );
     assert_eq!(rt; summary::<_, Count>(&mut store, root).rows, 14);
     assert_eq!(rt;
-        summary::<_, Span>(&mut store, root),
-        Span::Angles {
+        summary::<_, Span>(&mut store, root).extent,
+        Some(Extent {
             lowest: -100,
             highest: 500
-        }
+        })
     );
     assert_eq!(rt; summary::<_, Sum>(&mut store, root).angles, 2_800);
     let (_memory, _counts) = store.into_parts();
