@@ -1,0 +1,109 @@
+// The calls of a mounted volume. docs/volume.md states them.
+#![tactic(auto)]
+
+ghost use Rattle.std.specs.Prelude.{◌≡◌, ◌<◌, ◌≤◌, Some, None, IfOk, IfErr, MatchResult};
+ghost use Rattle.model.specs.Plain.{Ask.create, Ask.clone, Ask.delete, early, has, place};
+ghost use Rattle.page.specs.View.{root_of};
+ghost use Rattle.volume.specs.Kept.{Called};
+
+use counts::Store;
+use device::Device;
+use model::Refusal;
+use page::roots::Root;
+use std::marker::Model;
+
+// 24 clones of pitch tables on a device, and the 24 that were committed last.
+pub struct Volume<D: Device> {
+    store: Store<D>,
+    working: [Option<Root>; 24],
+    committed: [Option<Root>; 24],
+    generation: u32,
+}
+
+// The tables, and what the device means.
+impl<D: Device> Model for Volume<D> {
+    ghost use Rattle.device.specs.Meaning.{Meaning};
+    ghost use Rattle.model.specs.World.{Tables};
+
+    ghost Value = { Tables × Meaning };
+
+    ghost use Rattle.volume.specs.Kept.{tables, Kept};
+
+    ghost view = { λ v. (tables v.working v.committed v.generation, v.store.0) };
+
+    ghost invariant = { λ v. Kept (tables v.working v.committed v.generation) v.store };
+}
+
+impl<D: Device> Volume<D> {
+    // The root of a clone's tree, if the clone is there.
+    fn root_at(&self, n: u32) -> Option<Root>
+        requires { n < 24 }
+        ensures { root_of result ≡ place self.now.0.working n }
+    {
+        self.working[n as usize]
+    }
+
+    // Refuses a number above 23, and one whose clone is there.
+    fn check_vacant(&self, n: u32) -> Result<(), Refusal>
+        ensures { MatchResult result
+            (λ _. (early (has self.now.0.working) (create n) ≡ None) × (n < 24))
+            (λ e. early (has self.now.0.working) (create n) ≡ Some e) }
+    {
+        if n > 23 {
+            return Err(Refusal::Number);
+        }
+        if self.root_at(n).is_some() {
+            return Err(Refusal::Taken);
+        }
+        Ok(())
+    }
+
+    // The root of a clone's tree; refuses a number above 23, and a clone that is not there.
+    fn find(&self, n: u32) -> Result<Root, Refusal>
+        ensures { MatchResult result
+            (λ root. (early (has self.now.0.working) (delete n) ≡ None) × (n < 24) × (place self.now.0.working n ≡ Some (root.height, root.block)))
+            (λ e. early (has self.now.0.working) (delete n) ≡ Some e) }
+    {
+        if n > 23 {
+            return Err(Refusal::Number);
+        }
+        self.root_at(n).ok_or(Refusal::Absent)
+    }
+
+    // The root of the clone to be copied; refuses numbers above 23, a source that is not there, and a copy that is.
+    fn check_copy(&self, from: u32, to: u32) -> Result<Root, Refusal>
+        ensures { MatchResult result
+            (λ root. (early (has self.now.0.working) (clone from to) ≡ None) × (from < 24) × (to < 24)
+            × (place self.now.0.working from ≡ Some (root.height, root.block)) × (place self.now.0.working to ≡ None))
+            (λ e. early (has self.now.0.working) (clone from to) ≡ Some e) }
+    {
+        if from > 23 || to > 23 {
+            return Err(Refusal::Number);
+        }
+        let root = self.root_at(from).ok_or(Refusal::Absent)?;
+        if self.root_at(to).is_some() {
+            return Err(Refusal::Taken);
+        }
+        Ok(root)
+    }
+
+    // Makes a copy of a clone, which shares all blocks of it: none is taken and none is written.
+    pub fn clone_to(&mut self, from: u32, to: u32) -> Result<(), Refusal>
+        ensures { Called (clone from to) tt self.old result self.new }
+    {
+        let root = self.check_copy(from, to)?;
+        self.store.retain(root.block);
+        self.working[to as usize] = Some(root);
+        Ok(())
+    }
+
+    // Makes a clone absent, and gives up its tree.
+    pub fn delete(&mut self, n: u32) -> Result<(), Refusal>
+        ensures { Called (delete n) tt self.old result self.new }
+    {
+        let root = self.find(n)?;
+        self.store.release(root.block, root.height - 1);
+        self.working[n as usize] = None;
+        Ok(())
+    }
+}
