@@ -117,6 +117,7 @@ impl<D: Device> Store<D> {
         requires { Held self.old.0 self.old.1 block level }
         ensures kept { self.new.0 ≡ self.old.0 }
         ensures dropped { Dropped (block ∷ []) self.old.0 self.old.1 self.new.1 }
+        ensures sized { length self.new.1 ≡ length self.old.1 }
     {
         let count = self.counts.get(block);
         self.counts.set(block, count - 1);

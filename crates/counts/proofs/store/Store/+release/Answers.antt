@@ -64,6 +64,7 @@ loop-entry-preserved g t c =
     (subst (λ (m : Meaning). Dropped (c.entry-item.result.value ∷ []) m c.loop-entry.self.1 c.release.new.self.1) c.loop-entry.invariant.kept c.release.ensures.dropped) in
     record {
       kept = c.release.ensures.kept ∙ c.loop-entry.invariant.kept;
+      sized = c.release.ensures.sized ∙ c.loop-entry.invariant.sized;
       dropped = subst (λ (ys : List ℕ). Dropped ys q.0 q.1 c.release.new.self.1) (sym (take_more ks i 0 lt)) (dropped_push (take i ks) (get_or ks i 0) q.0 q.1 c.loop-entry.self.1 c.release.new.self.1 c.loop-entry.invariant.dropped one_more);
     }
 
