@@ -1,12 +1,11 @@
 -- A tree of one empty leaf.
-use Rattle.std.proofs.Common.{◌≡◌, ℕ, ◌+◌, ◌<◌, List, [], ◌∷◌, length, get_or, sym, ap, ◌∙◌, subst, ap₂, arith}
-use Rattle.device.specs.Meaning.{Meaning, Cell, blocks_of, current_at, written}
+use Rattle.std.proofs.Common.{◌≡◌, ℕ, ◌+◌, List, [], ◌∷◌, get_or, sym, ap, ◌∙◌, subst, ap₂, arith}
+use Rattle.device.specs.Meaning.{Meaning, Cell, current_at, written}
 use Rattle.device.proofs.Choices.{write_at}
 use Rattle.page.specs.Block.{Block, block_at, block_in, encode, Layout}
 use Rattle.page.proofs.Exact.{back}
 use Rattle.counts.specs.Counts.{one, occ, Counted, free_blocks}
 use Rattle.counts.specs.Moves.{Move, linking, State, state_of, step, run}
-use Rattle.counts.specs.declared.grant.Grant.{Grant}
 use Rattle.model.specs.TreeBlocks as model
 use Rattle.model.specs.TreeBlocks.{Change.begin, changed_on, new_blocks, bare_tree, root_of}
 use Rattle.edit.specs.Plan.{page}
@@ -14,33 +13,32 @@ use Rattle.edit.specs.Edited.{Counting, Granted, Edited}
 use Rattle.edit.proofs.States.{run_same}
 use Rattle.edit.proofs.Keeps.{link_counted}
 use Rattle.edit.proofs.Traces.{ops, run_replay, ops_free}
+use Rattle.edit.proofs.Trees.{Spare}
 use Rattle.edit.proofs.Editing.{lowest, spares}
 
-module _ (m : Meaning) (cs : List ℕ) (grant : Grant) (C : Counting m cs) (G : Granted 1 m cs grant) where
-  abbrev x : ℕ
-  x = get_or grant.blocks 0 0
-
+module _ (m : Meaning) (cs gs : List ℕ) (C : Counting m cs) (G : Granted 1 m cs gs) (x : ℕ) (hs : List ℕ) (taken : gs ≡ x ∷ hs) where
   abbrev leaf : Block
   leaf = page 0 []
 
   laid : Layout m.width leaf
   laid = record { wide = C.wide.0; few = omega arith; low = omega arith; small = λ i h. absurd (omega arith) }
 
+  at : get_or gs 0 0 ≡ x
+  at = ap (λ (z : List ℕ). get_or z 0 0) taken
+
   first : x ≡ get_or (free_blocks cs) 0 0
-  first = lowest 1 m cs grant C G 0 (omega arith)
+  first = sym at ∙ lowest 1 m cs gs C G 0 (omega arith)
 
   -- the leaf can be written
-  pub leaf_able : (x < blocks_of m) × (x < length cs) × (0 < m.left) × (x < 65536) × (get_or cs x 0 ≡ 0)
-  leaf_able =
-      let p = spares 1 m cs grant C G 0 (omega arith) in
-      (p.1, omega (arith, p.1, C.sized), omega (arith, G.left), omega (arith, p.1, C.sized, C.few), p.2)
+  pub leaf_spare : Spare m cs x
+  leaf_spare = subst (Spare m cs) at (spares 1 m cs gs C G 0 (omega arith))
 
-  pub created_root : (b : ℕ) → b ≡ x → (1, b) ≡ root_of (changed_on ℕ begin (free_blocks cs) bare_tree)
+  pub created_root : (1, x) ≡ root_of (changed_on ℕ begin (free_blocks cs) bare_tree)
   unfolding changed_on
-  created_root b e = ap (λ (y : ℕ). (1, y)) (e ∙ first)
+  created_root = ap (λ (y : ℕ). (1, y)) first
 
   there : model.Stored (current_at (written m x (encode m.width leaf))) (0, (x, []))
-  there = (ap (λ (c : Cell). block_in c.current) (write_at m x (encode m.width leaf) leaf_able.0) ∙ back m.width leaf laid, tt)
+  there = (ap (λ (c : Cell). block_in c.current) (write_at m x (encode m.width leaf) leaf_spare.1) ∙ back m.width leaf laid, tt)
 
   new : (0, (x, [])) ≡ changed_on ℕ begin (free_blocks cs) bare_tree
   unfolding changed_on
@@ -49,19 +47,19 @@ module _ (m : Meaning) (cs : List ℕ) (grant : Grant) (C : Counting m cs) (G : 
   once : (b : ℕ) → occ b (x ∷ []) ≡ occ b (new_blocks begin (free_blocks cs) bare_tree)
   once b = ap (λ (y : ℕ). occ b (y ∷ [])) first
 
-  pub created : (b : ℕ) → b ≡ x → (made : Block) → made.level ≡ 0 → made.entries ≡ [] → (q : State) → q ≡ step (linking b made) (state_of m cs) → Edited begin bare_tree m cs q.0 q.1
-  created b e made lv es q eq =
+  pub created : (made : Block) → made.level ≡ 0 → made.entries ≡ [] → (q : State) → q ≡ step (linking x made) (state_of m cs) → Edited begin bare_tree m cs q.0 q.1
+  created made lv es q eq =
       let q₀ : State = state_of m cs in
       let vs : List Move = linking x leaf ∷ [] in
-      let to : q ≡ run vs q₀ = eq ∙ ap (λ (y : ℕ). step (linking y made) q₀) e ∙ ap₂ (λ (k : ℕ) (es : List (ℕ × ℕ)). step (linking x (page k es)) q₀) lv es in
-      let A = leaf_able in
+      let to : q ≡ run vs q₀ = eq ∙ ap₂ (λ (k : ℕ) (es : List (ℕ × ℕ)). step (linking x (page k es)) q₀) lv es in
+      let A = leaf_spare in
       subst (λ (z : State). Edited begin bare_tree m cs z.0 z.1) (sym to) (record {
         os = ops m.width vs;
         trace = run_replay vs q₀;
-        free = ops_free m cs m.width vs (spares 1 m cs grant C G 0 (omega arith), tt);
+        free = ops_free m cs m.width vs (A, tt);
         once = once;
         stored = subst (model.Stored (current_at (run vs q₀).0)) new there;
         counted = λ h c. subst (λ (v : model.Tree). Counted (block_at (run vs q₀).0) (run vs q₀).1 (λ b. one v.1.0 b + h b)) new
-            (link_counted q₀ x 0 [] h A.4 A.1 A.0 laid tt c);
+            (link_counted q₀ x 0 [] h A.2 (omega (arith, A.1, C.sized)) A.1 laid tt c);
         sized = (run_same vs q₀).counts;
       })

@@ -184,8 +184,15 @@ module _ (m : Meaning) (s l k mid : ℕ) (es : List (ℕ × Pay ℕ ℕ l)) (sto
       (λ n. rw (ne_eqb (length es) 15 n) (part_all n))
       (cases_eq (length es) 15)
 
-module _ (m : Meaning) (cs gs : List ℕ) (n : Block) (s l : ℕ) (es : List (ℕ × Tree ℕ ℕ l)) (p : Ready m cs gs n s (suc l) es)
-    (i : ℕ) (at_i : i < length n.entries) (low-i : (get_or n.entries i (0, 0)).0 ≤ s) (high-i : suc i < length n.entries → s < (get_or n.entries (suc i) (0, 0)).0) where
+-- the entry i of a page above the leaves, which covers s
+pub record Covers (n : Block) (s i : ℕ) (e : ℕ × ℕ) : Type 0 where
+  pub above : n.level ≡ 0 → ⊥
+  pub within : i < length n.entries
+  pub low : (get_or n.entries i (0, 0)).0 ≤ s
+  pub high : suc i < length n.entries → s < (get_or n.entries (suc i) (0, 0)).0
+  pub entry : get_or n.entries i (0, 0) ≡ e
+
+module _ (m : Meaning) (cs gs : List ℕ) (n : Block) (s l : ℕ) (es : List (ℕ × Tree ℕ ℕ l)) (p : Ready m cs gs n s (suc l) es) (i : ℕ) (x : ℕ × ℕ) (C : Covers n s i x) where
   abbrev d : ℕ × Tree ℕ ℕ l
   d = (0, (0, []))
 
@@ -202,19 +209,19 @@ module _ (m : Meaning) (cs gs : List ℕ) (n : Block) (s l : ℕ) (es : List (�
   len = ap (λ (x : Block). length x.entries) p.is ∙ map_length (λ (c : Tree ℕ ℕ l). c.0) es
 
   at_e : i < length es
-  at_e = omega (arith, len)
+  at_e = omega (arith, C.within, len)
 
   low_e : k ≤ s
-  low_e = omega (arith, ap (λ (x : ℕ × ℕ). x.0) (entry i))
+  low_e = omega (arith, C.low, ap (λ (x : ℕ × ℕ). x.0) (entry i))
 
   high_e : suc i < length es → s < (get_or es (suc i) d).0
-  high_e h = omega (arith, high-i (omega (arith, len)), ap (λ (x : ℕ × ℕ). x.0) (entry (suc i)))
+  high_e h = omega (arith, C.high (omega (arith, len)), ap (λ (x : ℕ × ℕ). x.0) (entry (suc i)))
 
-  pub key_is : (get_or n.entries i (0, 0)).0 ≡ k
-  key_is = ap (λ (x : ℕ × ℕ). x.0) (entry i)
+  pub key_is : x.0 ≡ k
+  key_is = ap (λ (x : ℕ × ℕ). x.0) (sym C.entry ∙ entry i)
 
-  pub number_is : (get_or n.entries i (0, 0)).1 ≡ t.0
-  number_is = ap (λ (x : ℕ × ℕ). x.1) (entry i)
+  pub number_is : x.1 ≡ t.0
+  number_is = ap (λ (x : ℕ × ℕ). x.1) (sym C.entry ∙ entry i)
 
   abbrev sides : ℕ → ℕ
   sides b = (occ b (kids (suc l) (take i es)) + occ b (kids (suc l) (drop (suc i) es))) + p.others b

@@ -1,13 +1,12 @@
 -- A call that may edit a tree, in the words of the proofs.
-use Rattle.std.proofs.Common.{◌≡◌, ℕ, zero, suc, ◌+◌, ◌-◌, ◌*◌, ◌<◌, ◌≤◌, List, [], ◌∷◌, length, get_or, take, drop, sym, refl, ap, ◌∙◌, subst, ⊎_elim, arith}
-use Rattle.std.proofs.lemmas.List.{get_or-take}
+use Rattle.std.proofs.Common.{◌≡◌, ℕ, zero, suc, ◌+◌, ◌-◌, ◌*◌, ◌<◌, ◌≤◌, List, [], ◌∷◌, length, get_or, drop, sym, refl, ap, ◌∙◌, subst, ⊎_elim, arith, drop-drop}
+use Rattle.std.proofs.lemmas.List.{get_or-take, length-take-le, drop_all}
 use Rattle.std.proofs.lemmas.Bool.{lt-ltb, le-ltb, cases_lt}
 use Rattle.device.specs.Meaning.{Meaning, blocks_of, current_at}
 use Rattle.device.proofs.Choices.{blocks_replay}
 use Rattle.tree.proofs.Laid.{same_rule}
 use Rattle.page.specs.Slot.{Root}
 use Rattle.counts.specs.Counts.{spare, free_blocks}
-use Rattle.counts.specs.declared.grant.Grant.{Grant}
 use Rattle.model.specs.TreeBlocks.{Tree, Change, Change.begin, Change.puts, bare_tree, changed_on, top_level, tree_at, root_of, Stored, Each, Fit, Good}
 use Rattle.model.proofs.TreeLaws.{tree_stored, grow_fit, begin_fit}
 use Rattle.edit.specs.Kept.{Free}
@@ -42,34 +41,38 @@ spare_up (suc k) b cs i j l =
     go ih zero (suc j) l h = let q = spare_at k (suc b) cs j (omega arith) in omega (arith, q.0)
     go ih (suc i) (suc j) l h = ih i j (omega arith) (omega arith)
 
-module _ (n : ℕ) (m : Meaning) (cs : List ℕ) (grant : Grant) (C : Counting m cs) (G : Granted n m cs grant) where
-  pub lowest : (j : ℕ) → j < n → get_or grant.blocks j 0 ≡ get_or (free_blocks cs) j 0
-  lowest j lt =
-      sym (get_or-take grant.len grant.blocks j 0 (omega (arith, G.whole)))
-      ∙ ap (λ k. get_or (drop k (take grant.len grant.blocks)) j 0) (sym G.start)
-      ∙ ap (λ (z : List ℕ). get_or z j 0) G.these
-      ∙ get_or-take n (free_blocks cs) j 0 lt
+module _ (n : ℕ) (m : Meaning) (cs : List ℕ) (gs : List ℕ) (C : Counting m cs) (G : Granted n m cs gs) where
+  pub lowest : (j : ℕ) → j < n → get_or gs j 0 ≡ get_or (free_blocks cs) j 0
+  lowest j lt = ap (λ (z : List ℕ). get_or z j 0) G.these ∙ get_or-take n (free_blocks cs) j 0 lt
 
-  pub spares : (j : ℕ) → j < n → Spare m cs (get_or grant.blocks j 0)
+  -- all blocks of the grant
+  pub whole : length gs ≡ n
+  whole = ap length G.these ∙ length-take-le n (free_blocks cs) G.enough
+
+  pub spares : (j : ℕ) → j < n → Spare m cs (get_or gs j 0)
   spares j lt =
       let q = spare_at (length cs - 2) 2 cs j (omega (arith, G.enough)) in
       subst (Spare m cs) (sym (lowest j lt)) (q.0, omega (arith, q.1, q.0, C.sized), q.2)
 
-  pub frees : Free m cs grant.blocks n
+  pub frees : Free m cs gs n
   frees = record {
     count = λ j lt. (spares j lt).2;
     on = λ j lt. let q = spares j lt in (q.1, omega (arith, q.1, C.sized));
     apart = λ i j l lt e. omega (arith, lowest i (omega arith), lowest j lt, e, spare_up (length cs - 2) 2 cs i j l (omega (arith, G.enough)));
   }
 
+-- a grant of which all blocks but one are taken, and then that one
+pub all_taken : (k : ℕ) (gs hs : List ℕ) → length gs ≡ suc k → hs ≡ drop k gs → drop 1 hs ≡ []
+all_taken k gs hs n e = ap (drop 1) e ∙ drop-drop 1 k gs ∙ drop_all (k + 1) gs (omega (arith, n))
+
 up : (h : ℕ) → 1 ≤ h → suc (top_level h) ≡ h
 up zero l = absurd (omega arith)
 up (suc h) l = refl
 
-pub rooted : (m : Meaning) (cs : List ℕ) (grant : Grant) (root : Root) (s : ℕ) (E : Editable m cs root) → Granted (2 * root.0 + 1) m cs grant → s < 10000
-    → Rooted m cs grant.blocks root s (tree_at (current_at m) root) E.others
+pub rooted : (m : Meaning) (cs : List ℕ) (gs : List ℕ) (root : Root) (s : ℕ) (E : Editable m cs root) → Granted (2 * root.0 + 1) m cs gs → s < 10000
+    → Rooted m cs gs root s (tree_at (current_at m) root) E.others
 unfolding tree_at
-rooted m cs grant root s E G sp =
+rooted m cs gs root s E G sp =
     let t = tree_at (current_at m) root in
     let hi : suc t.0 ≡ root.0 = up root.0 E.good.height in
     let N : 2 * suc t.0 + 1 ≡ 2 * root.0 + 1 = omega (arith, hi) in
@@ -81,9 +84,9 @@ rooted m cs grant root s E G sp =
       counted = E.counted;
       modest = E.modest;
       few = E.counting.few;
-      free = subst (Free m cs grant.blocks) (sym N) (frees (2 * root.0 + 1) m cs grant E.counting G);
-      slots = λ j lt. (spares (2 * root.0 + 1) m cs grant E.counting G j (omega (arith, N, lt))).0;
-      lowest = λ j lt. lowest (2 * root.0 + 1) m cs grant E.counting G j (omega (arith, N, lt));
+      free = subst (Free m cs gs) (sym N) (frees (2 * root.0 + 1) m cs gs E.counting G);
+      slots = λ j lt. (spares (2 * root.0 + 1) m cs gs E.counting G j (omega (arith, N, lt))).0;
+      lowest = λ j lt. lowest (2 * root.0 + 1) m cs gs E.counting G j (omega (arith, N, lt));
       left = omega (arith, N, G.left);
       wide = E.counting.wide;
       speed = sp;
@@ -110,13 +113,13 @@ good_after d t m cs m' cs' r e E F =
       fit = subst (Fit (blocks_of m')) (sym back) (subst (λ (k : ℕ). Fit k u) (sym n) F);
     })
 
-pub good_put : (m : Meaning) (cs : List ℕ) (grant : Grant) (root : Root) (s a : ℕ) → Editable m cs root → Granted (2 * root.0 + 1) m cs grant → s < 10000 → a ≤ 18000 → (m' : Meaning) (cs' : List ℕ) (r : Root)
+pub good_put : (m : Meaning) (cs : List ℕ) (gs : List ℕ) (root : Root) (s a : ℕ) → Editable m cs root → Granted (2 * root.0 + 1) m cs gs → s < 10000 → a ≤ 18000 → (m' : Meaning) (cs' : List ℕ) (r : Root)
     → r ≡ root_of (changed_on ℕ (puts s a) (free_blocks cs) (tree_at (current_at m) root)) → Edited (puts s a) (tree_at (current_at m) root) m cs m' cs' → Good (blocks_of m') (current_at m') r
-good_put m cs grant root s a E G sp k m' cs' r e D =
+good_put m cs gs root s a E G sp k m' cs' r e D =
     let t : Tree = tree_at (current_at m) root in
-    let hi = (rooted m cs grant root s E G sp).height in
+    let hi = (rooted m cs gs root s E G sp).height in
     good_after (puts s a) t m cs m' cs' r e D (grow_fit (blocks_of m) (puts s a) (free_blocks cs) t (sp, k) (frees_inside m cs E.counting) (omega (arith, hi, G.enough)) E.good.fit)
 
-pub good_create : (m : Meaning) (cs : List ℕ) (grant : Grant) → Counting m cs → Granted 1 m cs grant → (m' : Meaning) (cs' : List ℕ) (r : Root)
+pub good_create : (m : Meaning) (cs : List ℕ) (gs : List ℕ) → Counting m cs → Granted 1 m cs gs → (m' : Meaning) (cs' : List ℕ) (r : Root)
     → r ≡ root_of (changed_on ℕ begin (free_blocks cs) bare_tree) → Edited begin bare_tree m cs m' cs' → Good (blocks_of m') (current_at m') r
-good_create m cs grant C G m' cs' r e D = good_after begin bare_tree m cs m' cs' r e D (begin_fit (blocks_of m) (free_blocks cs) bare_tree (frees_inside m cs C) G.enough)
+good_create m cs gs C G m' cs' r e D = good_after begin bare_tree m cs m' cs' r e D (begin_fit (blocks_of m) (free_blocks cs) bare_tree (frees_inside m cs C) G.enough)

@@ -7,15 +7,16 @@ use Rattle.tree.specs.Tree.{Tree, Wf, only}
 use Rattle.tree.proofs.Puts.{five_high}
 use Rattle.tree.proofs.Stores.{all_both}
 use Rattle.page.specs.Block.{Block, block_at, block_in, Layout}
+use Rattle.page.specs.Io.{Wide}
 use Rattle.page.specs.Slot.{Root}
 use Rattle.counts.specs.Counts.{one, occ, Counted, free_blocks}
-use Rattle.counts.specs.Moves.{Move, linking, State, state_of, step, run, Wide}
+use Rattle.counts.specs.Moves.{Move, linking, State, state_of, step, run}
 use Rattle.counts.proofs.Opens.{recount}
 use Rattle.model.specs.TreeBlocks as model
 use Rattle.model.specs.TreeBlocks.{Change.puts, changed_on, new_blocks, block_of, root_of, Each}
 use Rattle.model.proofs.TreeLaws.{grow_wf}
 use Rattle.edit.specs.Plan.{page, node_of, kids, Stored, chosen, parted, placed, put_n, moves, put_root_n}
-use Rattle.edit.specs.Able.{Ready, Made}
+use Rattle.edit.specs.Able.{Ready, Able, Made}
 use Rattle.edit.specs.Kept.{Free, Stands}
 use Rattle.edit.specs.Edited.{Edited}
 use Rattle.edit.proofs.States.{same_by, run_same, run_append}
@@ -64,6 +65,15 @@ pub record Rooted (m : Meaning) (cs gs : List ℕ) (root : Root) (s : ℕ) (r : 
   pub left : 2 * suc r.0 + 1 ≤ m.left
   pub wide : Wide m
   pub speed : s < 10000
+
+-- a new root can be written to block x
+pub record Topmost (q : State) (x : ℕ) (made : Block) : Type 0 where
+  pub wide : 32 ≤ q.0.width
+  pub on : x < blocks_of q.0
+  pub left : 1 ≤ q.0.left
+  pub low : made.level < 5
+  pub small : x < 65536
+  pub free : get_or q.1 x 0 ≡ 0
 
 -- the only one of the entries, or more of them
 only_one : (l : ℕ) (us : List (ℕ × Tree ℕ ℕ l)) (d : ℕ × Tree ℕ ℕ l) → length us ≡ 1 → us ≡ get_or us 0 d ∷ []
@@ -122,6 +132,9 @@ module _ (m : Meaning) (cs gs : List ℕ) (root : Root) (s : ℕ) (r : model.Tre
     free = record { count = λ j lt. p.free.count j (omega arith); on = λ j lt. p.free.on j (omega arith); apart = λ i j k lt. p.free.apart i j k (omega arith) };
     wide = p.wide;
   }
+
+  pub top_able : (n : Block) → n.level ≡ root.0 → n.entries ≡ (0, root.1) ∷ [] → Able m cs gs n s
+  top_able n v e = record { l = suc l; es = es; ready = top_ready n v e }
 
   spare : (j : ℕ) → j < N → Spare m cs (get_or gs j 0)
   spare j lt = (p.slots j lt, (p.free.on j lt).0, p.free.count j lt)
@@ -208,52 +221,49 @@ module _ (m : Meaning) (cs gs : List ℕ) (root : Root) (s : ℕ) (r : model.Tre
             st.0 (recount (λ b. occ b (kids (suc l) (o ∷ [])) + h b) (λ b. one o.1.0 b + h b) (λ b. omega arith) ct) q M.state
 
       -- more than one: they go below a new root
-      module _ (more : 1 < length made.entries) where
-        abbrev x : ℕ
-        x = get_or gs (2 * suc l) 0
-
+      module _ (more : 1 < length made.entries) (x : ℕ) (x-is : x ≡ get_or gs (2 * suc l) 0) where
         u_more : (suc l, (x, us)) ≡ u
-        u_more = sym (only_more l x us (omega (arith, len))) ∙ new_is
+        u_more = ap (λ (y : ℕ). (suc l, (y, us))) x-is ∙ sym (only_more l (get_or gs (2 * suc l) 0) us (omega (arith, len))) ∙ new_is
 
         -- the block for it is still free
         still_free : get_or (run ms q₀).1 x 0 ≡ 0
-        still_free = S.kept.free x (λ j lt e. p.free.apart j (2 * suc l) lt (omega arith) (sym e)) (p.free.count (2 * suc l) (omega arith))
+        still_free = S.kept.free x (λ j lt e. p.free.apart j (2 * suc l) lt (omega arith) (sym e ∙ x-is)) (ap (λ (y : ℕ). get_or cs y 0) x-is ∙ p.free.count (2 * suc l) (omega arith))
 
         -- the new root can be written
-        pub link_able : a ≤ 18000 → (Wide q.0) × (x < blocks_of q.0) × (x < length q.1) × (0 < q.0.left) × (made.level < 5) × (x < 65536) × (get_or q.1 x 0 ≡ 0)
+        pub link_able : a ≤ 18000 → Topmost q x made
         link_able k =
             let z = same_by ms q₀ q M.state in
             let o = p.free.on (2 * suc l) (omega arith) in
             let lv : made.level ≡ suc l = ap (λ (x : Block). x.level) M.is in
             let w = subst (λ (v : model.Tree). Wf ℕ ℕ v.0 v.1) (sym u_more) (grow_wf (puts s a) (free_blocks cs) r (p.speed, k) p.wf) in
-            let five = five_high ℕ ℕ (suc l) (x, us) w in (
-              (omega (arith, z.width, p.wide.0), omega (arith, z.width, p.wide.1)),
-              omega (arith, z.blocks, o.0),
-              omega (arith, z.counts, o.1),
-              omega (arith, z.left, moves_writes gs s a (suc l) es, p.left),
-              omega (arith, lv, five),
-              omega (arith, o.1, p.few),
-              ap (λ (y : State). get_or y.1 x 0) M.state ∙ still_free,
-            )
+            let five = five_high ℕ ℕ (suc l) (x, us) w in
+            record {
+              wide = omega (arith, z.width, p.wide.0);
+              on = omega (arith, z.blocks, o.0, x-is);
+              left = omega (arith, z.left, moves_writes gs s a (suc l) es, p.left);
+              low = omega (arith, lv, five);
+              small = omega (arith, o.1, p.few, x-is);
+              free = ap (λ (y : State). get_or y.1 x 0) M.state ∙ still_free;
+            }
 
-        pub more_root : (b : ℕ) → b ≡ x → (root.0 + 1, b) ≡ root_of u
-        more_root b e = ap₂ (λ (x y : ℕ). (x, y)) (omega (arith, p.height)) e ∙ ap (λ (v : model.Tree). root_of v) u_more
+        pub more_root : (root.0 + 1, x) ≡ root_of u
+        more_root = ap (λ (h : ℕ). (h, x)) (omega (arith, p.height)) ∙ ap (λ (v : model.Tree). root_of v) u_more
 
-        pub more_edited : (b : ℕ) → b ≡ x → (q' : State) → q' ≡ step (linking b made) q → Layout q.0.width made → Edited (puts s a) r m cs q'.0 q'.1
-        more_edited b e q' e' laid =
+        pub more_edited : (q' : State) → q' ≡ step (linking x made) q → Layout q.0.width made → Edited (puts s a) r m cs q'.0 q'.1
+        more_edited q' e' laid =
             let q₁ : State = run ms q₀ in
             let top : List Move = linking x (node_of (suc l) us) ∷ [] in
             let z = same_by ms q₀ q₁ refl in
             let o = p.free.on (2 * suc l) (omega arith) in
-            let wx : x < length q₁.1 = omega (arith, z.counts, o.1) in
-            let ox : x < blocks_of q₁.0 = omega (arith, z.blocks, o.0) in
+            let wx : x < length q₁.1 = omega (arith, z.counts, o.1, x-is) in
+            let ox : x < blocks_of q₁.0 = omega (arith, z.blocks, o.0, x-is) in
             let ly : Layout q₁.0.width (node_of (suc l) us) = subst (Layout q₁.0.width) M.is (subst (λ (y : State). Layout y.0.width made) M.state laid) in
             let q₂ : State = step (linking x (node_of (suc l) us)) q₁ in
             let end : run (ms ++ top) q₀ ≡ q₂ = run_append ms top q₀ in
-            let to : q' ≡ q₂ = e' ∙ ap (λ (y : ℕ). step (linking y made) q) e ∙ ap (λ (n : Block). step (linking x n) q) M.is ∙ ap (step (linking x (node_of (suc l) us))) M.state in
+            let to : q' ≡ q₂ = e' ∙ ap (λ (n : Block). step (linking x n) q) M.is ∙ ap (step (linking x (node_of (suc l) us))) M.state in
             edited_by (suc l, (x, us)) (ms ++ top) u_more
-            (each_linked gs (Spare m cs) ms top (moves_each gs (Spare m cs) s a (suc l) es (λ j lt. spare j (omega arith))) (spare (2 * suc l) (omega arith), tt))
-            (λ c. ap (occ c) (linked_append ms top) ∙ root_more (λ i. get_or (free_blocks cs) i 0) gs s a r p.lowest c (omega (arith, len)))
+            (each_linked gs (Spare m cs) ms top (moves_each gs (Spare m cs) s a (suc l) es (λ j lt. spare j (omega arith))) (subst (Spare m cs) (sym x-is) (spare (2 * suc l) (omega arith)), tt))
+            (λ c. ap (occ c) (linked_append ms top ∙ ap (λ (y : ℕ). linked ms ++ y ∷ []) x-is) ∙ root_more (λ i. get_or (free_blocks cs) i 0) gs s a r p.lowest c (omega (arith, len)))
             (subst (λ (y : State). Stored (block_at y.0) (suc (suc l)) (x, us)) (sym end) (link_stored q₁ x (suc l) us h still_free wx ox ly S.stored S.counted))
             (subst (λ (y : State). Counted (block_at y.0) y.1 (λ b. one x b + h b)) (sym end) (link_counted q₁ x (suc l) us h still_free wx ox ly S.stored S.counted))
             q' (to ∙ sym end)

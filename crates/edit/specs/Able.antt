@@ -4,8 +4,8 @@ use Rattle.device.specs.Meaning.{Meaning, blocks_of}
 use Rattle.tree.specs.Node.{Seg, Every}
 use Rattle.tree.specs.Tree.{Pay, Gap, Span, Enough}
 use Rattle.page.specs.Block.{Block, block_at}
+use Rattle.page.specs.Io.{Wide}
 use Rattle.counts.specs.Counts.{occ, Counted}
-use Rattle.counts.specs.Moves.{Wide}
 use Rattle.counts.specs.Moves.{run, Laid}
 use Rattle.edit.specs.Plan.{node_of, kids, Stored, moves, put_n}
 use Rattle.edit.specs.Kept.{Free}

@@ -3,11 +3,9 @@ use Rattle.std.specs.Prelude.{◌≡◌, ℕ, ◌+◌, ◌<◌, ◌≤◌, List,
 use Rattle.device.specs.Meaning.{Meaning, blocks_of, current_at}
 use Rattle.device.specs.Cuts.{Op, Op.write, Op.flush, replay}
 use Rattle.page.specs.Block.{block_at}
+use Rattle.page.specs.Io.{Wide}
 use Rattle.page.specs.Slot.{Root}
 use Rattle.counts.specs.Counts.{one, occ, Counted, free_blocks}
-use Rattle.counts.specs.Grants.{in_grant}
-use Rattle.counts.specs.Moves.{Wide}
-use Rattle.counts.specs.declared.grant.Grant.{Grant}
 use Rattle.model.specs.TreeBlocks.{Tree, Change, Change.begin, Change.puts, Change.takes, changed_on, new_blocks, Stored, Each, Good}
 use Rattle.model.specs.World.{targets}
 
@@ -25,11 +23,9 @@ pub record Editable (m : Meaning) (cs : List ℕ) (root : Root) : Type 0 where
   pub counted : Counted (block_at m) cs (λ b. one root.1 b + others b)
   pub modest : (b : ℕ) → others b ≤ 1000
 
--- a whole grant of the n lowest free blocks, and so many writes are left
-pub record Granted (n : ℕ) (m : Meaning) (cs : List ℕ) (grant : Grant) : Type 0 where
-  pub start : grant.next ≡ 0
-  pub whole : grant.len ≡ n
-  pub these : in_grant grant ≡ take n (free_blocks cs)
+-- the grant has the n lowest free blocks, and so many writes are left
+pub record Granted (n : ℕ) (m : Meaning) (cs : List ℕ) (grant : List ℕ) : Type 0 where
+  pub these : grant ≡ take n (free_blocks cs)
   pub enough : n ≤ length (free_blocks cs)
   pub left : n ≤ m.left
 

@@ -1,111 +1,90 @@
-use Rattle.std.proofs.Common.{ℕ, ◌+◌, List, get_or, vec_items, sym, refl, ◌∙◌, subst, ap₂, arith}
+use Rattle.std.proofs.Common.{◌≡◌, ℕ, suc, ◌+◌, ◌*◌, ◌<◌, ◌≤◌, List, ◌++◌, map, length, get_or, take, drop, sym, ap, ◌∙◌, ap₂, add-one, arith, drop-drop}
 use Rattle.device.specs.Meaning.{Meaning}
-use Rattle.page.specs.View.{view, entries}
+use Rattle.page.specs.View.{pair, view, entries}
+use Rattle.page.specs.declared.page.Entry.{Entry}
+use Rattle.page.specs.declared.page.Page.{Page}
 use Rattle.page.proofs.Pages.{entries_length, entries_at}
-use Rattle.edit.specs.Plan.{page, parted}
-use Rattle.counts.specs.Moves.{State, state_of}
-use Rattle.edit.specs.Able.{Open}
-use Rattle.edit.specs.Kids.{listed}
-use Rattle.edit.proofs.Parting.{By}
-use Rattle.edit.proofs.Anyhow.{leaf_made, room, first_key, owned_any, part_any, linkable, up_any}
+use Rattle.counts.specs.Moves.{state_of}
+use Rattle.edit.specs.Plan.{page}
+use Rattle.edit.specs.Able.{Able}
+use Rattle.edit.proofs.Laying.{parts_laid}
+use Rattle.edit.proofs.Downs.{Covers}
+use Rattle.edit.proofs.Anyhow.{Parts, Linkable, leaf_made, room, first_key, owned_any, part_any, linkable, up_any}
+use Rattle.edit.proofs.+put_in.Given.{Over}
+use Rattle.edit.proofs.+put_in.Goals.{After-put_in-made}
 use Rattle.edit.proofs.+put_in.Goals as goal
 
 pub with_row-requires : goal.with_row-requires
-with_row-requires g t c = let p = c.requires.able in omega (arith, room _ _ _ _ _ p.l p.es p.ready, entries_length c.args.page.now)
+with_row-requires g t c = omega (arith, room _ _ _ _ _ c.requires.able, entries_length c.args.page.now)
 
-pub returns-then-page-eq0 : goal.returns-then-page-eq0
-returns-then-page-eq0 g t c = record {
-  sound = c.requires.sound;
-  made = leaf_made (g.D.Device.meaning c.args.store.now.device) (vec_items c.args.store.now.counts.of) c.args.grant.now.blocks (view c.args.page.now) c.args.row.speed c.args.row.value (view c.with_row.result)
-      c.if-page-eq0.true c.with_row.ensures.level c.with_row.ensures.these;
-  next = omega (arith, c.requires.start, c.if-page-eq0.true);
-  len = refl;
-  blocks = refl;
-}
+pub returns-then-page-eq0-clause-made : goal.returns-then-page-eq0-clause-made
+returns-then-page-eq0-clause-made g t c = leaf_made _ _ _ _ _ _ (view c.with_row.result) c.if-page-eq0.true c.with_row.ensures.level c.with_row.ensures.these
 
 pub covering-i-requires : goal.covering-i-requires
-covering-i-requires g t c =
-    let p = c.requires.able in
-    let f = first_key _ _ _ (view c.args.page.now) _ c.if-page-eq0.false p.l p.es p.ready in
-    omega (arith, f.0, entries_length c.args.page.now)
+covering-i-requires g t c = omega (arith, (first_key _ _ _ _ _ c.if-page-eq0.false c.requires.able).0, entries_length c.args.page.now)
+
+-- the entry that `covering` finds is the one that covers the speed
+covers : (m : Meaning) (cs gs : List ℕ) (p : Page) (s i : ℕ) (e : Entry) (xs : List Entry) → (p.level ≡ 0 → ⊥) → Able m cs gs (view p) s → i < length p.entries.items
+    → ((get_or (entries p) 0 (0, 0)).0 ≤ s → (get_or (entries p) i (0, 0)).0 ≤ s) → (suc i < length p.entries.items → s < (get_or (entries p) (suc i) (0, 0)).0)
+    → xs ≡ p.entries.items → e ≡ get_or xs i e → Covers (view p) s i (pair e)
+covers m cs gs p s i e xs above able within low high same is = record {
+  above = above;
+  within = omega (arith, entries_length p, within);
+  low = low (first_key m cs gs (view p) s above able).1;
+  high = λ h. high (omega (arith, entries_length p, h));
+  entry = entries_at p i e within ∙ ap (λ (xs : List Entry). pair (get_or xs i e)) (sym same) ∙ sym (ap pair is);
+}
 
 pub open-child-requires : goal.open-child-requires
 open-child-requires g t c =
-    let p = c.requires.able in
-    let n = entries_length c.args.page.now in
-    let first = (first_key _ _ _ (view c.args.page.now) _ c.if-page-eq0.false p.l p.es p.ready).1 in
-    record {
-      sound = c.requires.sound;
-      wide = p.ready.wide;
-      owned = owned_any (g.D.Device.meaning c.args.store.now.device) (vec_items c.args.store.now.counts.of) c.args.grant.now.blocks (view c.args.page.now) c.args.row.speed c.if-page-eq0.false c.covering-i.result
-          (omega (arith, n, c.covering-i.ensures.within)) (c.covering-i.ensures.low first) (λ h. c.covering-i.ensures.high (omega (arith, n, h))) _ _ (entries_at c.args.page.now c.covering-i.result c.index-page-i.result c.covering-i.ensures.within)
-          p.l p.es p.ready;
-    }
+    let C = covers _ _ _ c.args.page.now _ _ _ _ c.if-page-eq0.false c.requires.able c.covering-i.ensures.within c.covering-i.ensures.low c.covering-i.ensures.high c.deref.ensures.0 c.index-deref-i.is in
+    owned_any _ _ _ _ _ _ _ C c.requires.able
 
 pub put_in-made-requires : goal.put_in-made-requires
 put_in-made-requires g t c κs within =
-    let p = c.requires.able in
-    let n = entries_length c.args.page.now in
-    let first = (first_key _ _ _ (view c.args.page.now) _ c.if-page-eq0.false p.l p.es p.ready).1 in
-    let R = part_any (g.D.Device.meaning c.args.store.now.device) (vec_items c.args.store.now.counts.of) c.args.grant.now.blocks (view c.args.page.now) c.args.row.speed c.if-page-eq0.false c.covering-i.result
-    (omega (arith, n, c.covering-i.ensures.within)) (c.covering-i.ensures.low first) (λ h. c.covering-i.ensures.high (omega (arith, n, h))) _ _ (entries_at c.args.page.now c.covering-i.result c.index-page-i.result c.covering-i.ensures.within)
-    (view c.open-child.result) (view c.part_for-part.result) c.open-child.ensures.page c.part_for-part.ensures.level c.part_for-part.ensures.these
-    (state_of (g.D.Device.meaning c.open-child.new.self.device) (vec_items c.open-child.new.self.counts.of)) c.open-child.ensures.state
-    p.l p.es p.ready in
-    (omega (arith, c.decreases, R.1), (within, (c.open-child.ensures.sound, (R.0, (c.requires.start, omega (arith, R.1, c.requires.enough))))))
+    let C = covers _ _ _ c.args.page.now _ _ _ _ c.if-page-eq0.false c.requires.able c.covering-i.ensures.within c.covering-i.ensures.low c.covering-i.ensures.high c.deref.ensures.0 c.index-deref-i.is in
+    let R = part_any _ _ _ _ _ _ _ C (view c.open-child.result) (view c.part_for-part.result) c.open-child.new.self
+    (record { there = c.open-child.ensures.page; level = c.part_for-part.ensures.level; these = c.part_for-part.ensures.these; state = c.open-child.ensures.state }) c.requires.able in
+    (omega (arith, c.decreases, R.1), (within, (R.0, omega (arith, R.1, c.requires.enough))))
+
+module _ (g : Over) (t : ℕ) (c : After-put_in-made g t) where
+  C : Covers (view c.args.page.now) c.args.row.speed c.covering-i.result (pair c.index-deref-i.result)
+  C = covers _ _ _ c.args.page.now _ _ _ _ c.if-page-eq0.false c.requires.able c.covering-i.ensures.within c.covering-i.ensures.low c.covering-i.ensures.high c.deref.ensures.0 c.index-deref-i.is
+
+  P : Parts (state_of c.args.store.now.0 c.args.store.now.1) c.open-child.new.self c.index-deref-i.result.value c.args.row.speed (view c.open-child.result) (view c.part_for-part.result)
+  P = record { there = c.open-child.ensures.page; level = c.part_for-part.ensures.level; these = c.part_for-part.ensures.these; state = c.open-child.ensures.state }
+
+  link : Linkable c.put_in-made.new.store c.put_in-made.new.grant (view c.args.page.now) (view c.open-child.result) (view c.put_in-made.result)
+  link = linkable _ _ _ _ _ _ _ C _ _ _ P _ _ _ c.put_in-made.ensures.made _ c.put_in-made.ensures.grant c.requires.enough c.requires.able
 
 pub link_kids-kids-requires : goal.link_kids-kids-requires
 link_kids-kids-requires g t c =
-    let p = c.requires.able in
-    let n = entries_length c.args.page.now in
-    let first = (first_key _ _ _ (view c.args.page.now) _ c.if-page-eq0.false p.l p.es p.ready).1 in
-    let L = linkable (g.D.Device.meaning c.args.store.now.device) (vec_items c.args.store.now.counts.of) c.args.grant.now.blocks (view c.args.page.now) c.args.row.speed c.if-page-eq0.false c.covering-i.result
-    (omega (arith, n, c.covering-i.ensures.within)) (c.covering-i.ensures.low first) (λ h. c.covering-i.ensures.high (omega (arith, n, h))) _ _ (entries_at c.args.page.now c.covering-i.result c.index-page-i.result c.covering-i.ensures.within)
-    (view c.open-child.result) (view c.part_for-part.result) c.open-child.ensures.page c.part_for-part.ensures.level c.part_for-part.ensures.these
-    (state_of (g.D.Device.meaning c.open-child.new.self.device) (vec_items c.open-child.new.self.counts.of)) c.open-child.ensures.state
-    c.args.row.value (view c.put_in-made.result) (state_of (g.D.Device.meaning c.put_in-made.new.store.device) (vec_items c.put_in-made.new.store.counts.of)) c.put_in-made.ensures.made
-    c.put_in-made.new.grant.next c.put_in-made.ensures.next
-    p.l p.es p.ready in
+    let L = link g t (goal.at.link_kids-kids-requires g t c).After-put_in-made in
     record {
-      sound = c.put_in-made.ensures.sound;
-      wide = L.0;
-      left = L.1;
-      places = subst (λ (gs : List ℕ). Open (g.D.Device.meaning c.put_in-made.new.store.device) (vec_items c.put_in-made.new.store.counts.of) gs c.put_in-made.new.grant.next) (sym c.put_in-made.ensures.blocks) L.2;
-      two = omega (arith, c.put_in-made.ensures.next, c.put_in-made.ensures.len, c.requires.enough, L.4, c.part_for-part.ensures.level);
-      level = (omega (arith, L.4, c.args.page.now.few.1), L.3);
-      key = (get_or c.args.page.now.items c.covering-i.result c.index-page-i.result).small.0;
+      few = L.few;
+      places = L.places;
+      two = L.two;
+      left = L.left;
+      level = (omega (arith, L.above, c.args.page.now.few.1), L.level);
+      key = c.index-deref-i.result.small.0;
     }
 
-pub with_kids-requires : goal.with_kids-requires
-with_kids-requires g t c = let p = c.requires.able in (c.covering-i.ensures.within, omega (arith, room _ _ _ _ _ p.l p.es p.ready, entries_length c.args.page.now))
+pub spliced-requires-clause-room : goal.spliced-requires-clause-room
+spliced-requires-clause-room g t c = omega (arith, room _ _ _ _ _ c.requires.able, entries_length c.args.page.now, c.deref-2.ensures.1)
 
-pub returns : goal.returns
-returns g t c =
-    let p = c.requires.able in
-    let n = entries_length c.args.page.now in
-    let first = (first_key _ _ _ (view c.args.page.now) _ c.if-page-eq0.false p.l p.es p.ready).1 in
-    let M : Meaning = g.D.Device.meaning c.args.store.now.device in
-    let cs : List ℕ = vec_items c.args.store.now.counts.of in
-    let gs : List ℕ = c.args.grant.now.blocks in
-    let q₁ : State = state_of (g.D.Device.meaning c.open-child.new.self.device) (vec_items c.open-child.new.self.counts.of) in
-    let q₂ : State = state_of (g.D.Device.meaning c.put_in-made.new.store.device) (vec_items c.put_in-made.new.store.counts.of) in
-    let q₃ : State = state_of (g.D.Device.meaning c.link_kids-kids.new.store.device) (vec_items c.link_kids-kids.new.store.counts.of) in
-    let j : ℕ = c.put_in-made.new.grant.next in
-    let L = linkable M cs gs (view c.args.page.now) c.args.row.speed c.if-page-eq0.false c.covering-i.result
-    (omega (arith, n, c.covering-i.ensures.within)) (c.covering-i.ensures.low first) (λ h. c.covering-i.ensures.high (omega (arith, n, h))) _ _ (entries_at c.args.page.now c.covering-i.result c.index-page-i.result c.covering-i.ensures.within)
-    (view c.open-child.result) (view c.part_for-part.result) c.open-child.ensures.page c.part_for-part.ensures.level c.part_for-part.ensures.these
-    q₁ c.open-child.ensures.state c.args.row.value (view c.put_in-made.result) q₂ c.put_in-made.ensures.made j c.put_in-made.ensures.next p.l p.es p.ready in
-    let by : By c.open-child.result.level (get_or gs j 0) (get_or gs (j + 1) 0) q₂ q₃ (listed c.link_kids-kids.result) (parted c.args.row.speed (get_or c.args.page.now.items c.covering-i.result c.index-page-i.result).speed (entries c.open-child.result) (entries c.put_in-made.result)) =
-    subst (λ (hs : List ℕ). By c.open-child.result.level (get_or hs j 0) (get_or hs (j + 1) 0) q₂ q₃ (listed c.link_kids-kids.result) (parted c.args.row.speed (get_or c.args.page.now.items c.covering-i.result c.index-page-i.result).speed (entries c.open-child.result) (entries c.put_in-made.result)))
-    c.put_in-made.ensures.blocks (record { kids = c.link_kids-kids.ensures.kids; state = c.link_kids-kids.ensures.state; laid = c.link_kids-kids.ensures.laid }) in
-    record {
-      sound = c.link_kids-kids.ensures.sound;
-      made = up_any M cs gs (view c.args.page.now) c.args.row.speed c.if-page-eq0.false c.covering-i.result
-          (omega (arith, n, c.covering-i.ensures.within)) (c.covering-i.ensures.low first) (λ h. c.covering-i.ensures.high (omega (arith, n, h))) _ _ (entries_at c.args.page.now c.covering-i.result c.index-page-i.result c.covering-i.ensures.within)
-          (view c.open-child.result) (view c.part_for-part.result) c.open-child.ensures.page c.part_for-part.ensures.level c.part_for-part.ensures.these
-          q₁ c.open-child.ensures.state c.args.row.value (view c.put_in-made.result) q₂ c.put_in-made.ensures.made j c.put_in-made.ensures.next
-          q₃ (listed c.link_kids-kids.result) (view c.with_kids.result) by (ap₂ page c.with_kids.ensures.level c.with_kids.ensures.these);
-      next = omega (arith, c.link_kids-kids.ensures.next, c.put_in-made.ensures.next, L.4, c.part_for-part.ensures.level);
-      len = c.link_kids-kids.ensures.len ∙ c.put_in-made.ensures.len;
-      blocks = c.link_kids-kids.ensures.blocks ∙ c.put_in-made.ensures.blocks;
-    }
+pub returns-clause-made : goal.returns-clause-made
+returns-clause-made g t c =
+    let d = (goal.at.returns-clause-made g t c).After-put_in-made in
+    let L = link g t d in
+    let es = entries c.args.page.now in
+    let i = c.covering-i.result in
+    let ks = map pair c.link_kids-kids.result.items in
+    up_any _ _ _ _ _ _ _ (C g t d) _ _ _ (P g t d) _ _ _ c.put_in-made.ensures.made _ c.put_in-made.ensures.grant c.link_kids-kids.new.store ks (view c.spliced.result)
+    (record { kids = c.link_kids-kids.ensures.kids; state = c.link_kids-kids.ensures.state; laid = parts_laid c.open-child.result c.put_in-made.result _ _ _ _ _ L.wide (omega (arith, L.above, c.args.page.now.few.1)) L.level })
+    (ap₂ page c.spliced.ensures.level (c.spliced.ensures.these ∙ ap₂ (λ (xs : List Entry) (n : ℕ). take i es ++ (map pair xs ++ drop n es)) c.deref-2.ensures.0 (add-one i)))
+
+pub returns-clause-grant : goal.returns-clause-grant
+returns-clause-grant g t c =
+    let L = link g t (goal.at.returns-clause-grant g t c).After-put_in-made in
+    let j : 2 * c.part_for-part.result.level + 2 ≡ 2 * c.args.page.now.level = omega (arith, L.above, c.part_for-part.ensures.level) in
+    c.link_kids-kids.ensures.grant ∙ ap (drop 2) c.put_in-made.ensures.grant ∙ drop-drop 2 (2 * c.part_for-part.result.level) c.args.grant.now ∙ ap (λ (k : ℕ). drop k c.args.grant.now) j

@@ -1,152 +1,91 @@
-use Rattle.std.proofs.Common.{◌≡◌, ℕ, suc, ◌*◌, List, [], ◌∷◌, get_or, vec_items, sym, ap, ◌∙◌, ap₂, arith}
-use Rattle.device.specs.Meaning.{Meaning, current_at}
-use Rattle.page.specs.Block.{Block}
-use Rattle.page.specs.Slot.{Root}
-use Rattle.page.specs.View.{view}
+use Rattle.std.proofs.Common.{◌≡◌, ℕ, suc, ◌*◌, ◌<◌, List, [], ◌∷◌, length, get_or, drop, sym, ap, ◌∙◌, arith}
+use Rattle.device.specs.Meaning.{current_at}
+use Rattle.page.specs.View.{view, entries}
+use Rattle.page.specs.declared.page.Page.{Page}
+use Rattle.page.specs.declared.page.Entry.{Entry}
 use Rattle.page.proofs.Pages.{entries_length, entries_at}
-use Rattle.counts.specs.Moves.{State, state_of}
 use Rattle.model.specs.TreeBlocks.{Tree, tree_at}
+use Rattle.edit.specs.Able.{Made}
 use Rattle.edit.proofs.Laying.{laid_out}
-use Rattle.edit.proofs.Trees.{low, top_ready, many, one_small, one_root, one_edited, link_able, more_root, more_edited}
-use Rattle.edit.proofs.Editing.{rooted, good_put}
+use Rattle.edit.proofs.Anyhow.{next_place}
+use Rattle.edit.proofs.Trees.{Rooted, Topmost, top_ready, top_able, many, one_small, one_root, one_edited, link_able, more_root, more_edited}
+use Rattle.edit.proofs.Editing.{whole, all_taken, rooted, good_put}
+use Rattle.edit.proofs.put_tree.Given.{Over}
+use Rattle.edit.proofs.put_tree.Goals.{After-put_in-made}
 use Rattle.edit.proofs.put_tree.Goals as goal
 
-pub single-above-requires : goal.single-above-requires
-single-above-requires g c =
-    let m : Meaning = g.D.Device.meaning c.args.store.now.device in
-    let cs : List ℕ = vec_items c.args.store.now.counts.of in
-    let root : Root = (c.args.root.height, c.args.root.block) in
-    let gs : List ℕ = c.args.grant.blocks in
-    let s : ℕ = c.args.row.speed in
-    let t : Tree = tree_at (current_at m) root in
-    let h = c.requires.editable.others in
-    let p = rooted m cs c.args.grant root s c.requires.editable c.requires.granted c.requires.row.0 in
-    omega (arith, p.height, low m cs gs root s t h p)
+pub put_in-made-requires-clause-able : goal.put_in-made-requires-clause-able
+put_in-made-requires-clause-able g c =
+    top_able _ _ _ _ _ _ _ (rooted _ _ _ _ _ c.requires.editable c.requires.granted c.requires.row.0) (view c.new-above.result) c.new-above.ensures.level c.new-above.ensures.these
 
-pub put_in-made-requires : goal.put_in-made-requires
-put_in-made-requires g c =
-    let m : Meaning = g.D.Device.meaning c.args.store.now.device in
-    let cs : List ℕ = vec_items c.args.store.now.counts.of in
-    let root : Root = (c.args.root.height, c.args.root.block) in
-    let gs : List ℕ = c.args.grant.blocks in
-    let s : ℕ = c.args.row.speed in
-    let t : Tree = tree_at (current_at m) root in
-    let h = c.requires.editable.others in
-    let p = rooted m cs c.args.grant root s c.requires.editable c.requires.granted c.requires.row.0 in
-    record {
-      sound = c.requires.sound;
-      able = record { l = suc t.0; es = (0, t.1) ∷ []; ready = top_ready m cs gs root s t h p (view c.single-above.result) c.single-above.ensures.level c.single-above.ensures.these };
-      start = c.requires.granted.start;
-      enough = omega (arith, c.single-above.ensures.level, c.requires.granted.whole);
-    }
+module _ (g : Over) (c : After-put_in-made g) where
+  abbrev t : Tree
+  t = tree_at (current_at c.args.store.now.0) (c.args.root.height, c.args.root.block)
+
+  p : Rooted c.args.store.now.0 c.args.store.now.1 c.args.grant (c.args.root.height, c.args.root.block) c.args.row.speed t c.requires.editable.others
+  p = rooted _ _ _ _ _ c.requires.editable c.requires.granted c.requires.row.0
+
+  M : Made c.args.store.now.0 c.args.store.now.1 c.put_in-made.new.store.0 c.put_in-made.new.store.1 c.args.grant c.args.row.speed c.args.row.value (suc t.0) ((0, t.1) ∷ []) (view c.put_in-made.result)
+  M = c.put_in-made.ensures.made _ _ (top_ready _ _ _ _ _ _ _ p (view c.new-above.result) c.new-above.ensures.level c.new-above.ensures.these)
+
+  -- all blocks of the grant but one are taken
+  but_one : drop 1 c.put_in-made.new.grant ≡ []
+  but_one = all_taken (2 * c.new-above.result.level) c.args.grant _ (omega (arith, whole _ _ _ _ c.requires.editable.counting c.requires.granted, c.new-above.ensures.level)) c.put_in-made.ensures.grant
+
+pub end-requires : goal.end-requires
+end-requires g c = c.give_back.ensures ∙ but_one g (goal.at.end-requires g c).After-put_in-made
+
+-- one entry: it names the new root
+only_block : (q : Page) (xs : List Entry) (r : Entry) → length q.entries.items ≡ 1 → xs ≡ q.entries.items → (get_or (entries q) 0 (0, 0)).1 ≡ (get_or xs 0 r).value
+only_block q xs r n e = ap (λ (x : ℕ × ℕ). x.1) (entries_at q 0 r (omega (arith, n))) ∙ ap (λ (xs : List Entry). (get_or xs 0 r).value) (sym e)
 
 pub invariant_of-result : goal.invariant_of-result
 invariant_of-result g c =
-    let m : Meaning = g.D.Device.meaning c.args.store.now.device in
-    let cs : List ℕ = vec_items c.args.store.now.counts.of in
-    let root : Root = (c.args.root.height, c.args.root.block) in
-    let gs : List ℕ = c.args.grant.blocks in
-    let s : ℕ = c.args.row.speed in
-    let t : Tree = tree_at (current_at m) root in
-    let h = c.requires.editable.others in
-    let p = rooted m cs c.args.grant root s c.requires.editable c.requires.granted c.requires.row.0 in
-    let a : ℕ = c.args.row.value in
-    let q : State = state_of (g.D.Device.meaning c.put_in-made.new.store.device) (vec_items c.put_in-made.new.store.counts.of) in
-    let made : Block = view c.put_in-made.result in
-    let M = c.put_in-made.ensures.made (suc t.0) ((0, t.1) ∷ []) (top_ready m cs gs root s t h p (view c.single-above.result) c.single-above.ensures.level c.single-above.ensures.these) in
-    let n = entries_length c.put_in-made.result ∙ c.if-made-eq1.true in
-    let e = ap (λ (x : ℕ × ℕ). x.1) (entries_at c.put_in-made.result 0 c.index-made-0.result (omega (arith, c.if-made-eq1.true))) in
-    record { small = (omega (arith, p.height, low m cs gs root s t h p), one_small m cs gs root s t h p a q made M n _ e) }
+    let d = (goal.at.invariant_of-result g c).After-put_in-made in
+    let n = sym c.len.ensures.value ∙ c.if-len-eq1.true in
+    let e = only_block c.put_in-made.result _ c.index-deref-0.result n c.deref.ensures.0 in
+    record { small = (c.args.root.small.0, one_small _ _ _ _ _ _ _ (p g d) _ _ _ (M g d) (entries_length c.put_in-made.result ∙ n) _ e) }
 
-pub returns-then-made-eq1 : goal.returns-then-made-eq1
-returns-then-made-eq1 g c =
-    let m : Meaning = g.D.Device.meaning c.args.store.now.device in
-    let cs : List ℕ = vec_items c.args.store.now.counts.of in
-    let root : Root = (c.args.root.height, c.args.root.block) in
-    let gs : List ℕ = c.args.grant.blocks in
-    let s : ℕ = c.args.row.speed in
-    let t : Tree = tree_at (current_at m) root in
-    let h = c.requires.editable.others in
-    let p = rooted m cs c.args.grant root s c.requires.editable c.requires.granted c.requires.row.0 in
-    let a : ℕ = c.args.row.value in
-    let q : State = state_of (g.D.Device.meaning c.put_in-made.new.store.device) (vec_items c.put_in-made.new.store.counts.of) in
-    let made : Block = view c.put_in-made.result in
-    let M = c.put_in-made.ensures.made (suc t.0) ((0, t.1) ∷ []) (top_ready m cs gs root s t h p (view c.single-above.result) c.single-above.ensures.level c.single-above.ensures.these) in
-    let n = entries_length c.put_in-made.result ∙ c.if-made-eq1.true in
-    let e = ap (λ (x : ℕ × ℕ). x.1) (entries_at c.put_in-made.result 0 c.index-made-0.result (omega (arith, c.if-made-eq1.true))) in
-    let at = one_root m cs gs root s t h p a q made M n _ e in
-    let D = one_edited m cs gs root s t h p a q made M n _ e in
-    record {
-      sound = c.put_in-made.ensures.sound;
-      root = at;
-      edited = D;
-      good = good_put m cs c.args.grant root s a c.requires.editable c.requires.granted c.requires.row.0 c.requires.row.1 q.0 q.1 _ at D;
-    }
+pub returns-then-len-eq1 : goal.returns-then-len-eq1
+returns-then-len-eq1 g c =
+    let d = (goal.at.returns-then-len-eq1 g c).After-put_in-made in
+    let n = sym c.len.ensures.value ∙ c.if-len-eq1.true in
+    let e = only_block c.put_in-made.result _ c.index-deref-0.result n c.deref.ensures.0 in
+    let at = one_root _ _ _ _ _ _ _ (p g d) _ _ _ (M g d) (entries_length c.put_in-made.result ∙ n) _ e in
+    let D = one_edited _ _ _ _ _ _ _ (p g d) _ _ _ (M g d) (entries_length c.put_in-made.result ∙ n) _ e in
+    record { root = at; edited = D; good = good_put _ _ _ _ _ _ c.requires.editable c.requires.granted c.requires.row.0 c.requires.row.1 _ _ _ at D }
+
+-- more entries: they go below a new root, in the last block of the grant
+pub end-requires-2 : goal.end-requires-2
+end-requires-2 g c = ap (drop 1) (sym c.take-block.ensures) ∙ but_one g (goal.at.end-requires-2 g c).After-put_in-made
+
+module _ (g : Over) (c : After-put_in-made g) (n : length c.put_in-made.result.entries.items ≡ 1 → ⊥) (b : ℕ) (rest : List ℕ) (e : c.put_in-made.new.grant ≡ b ∷ rest) where
+  more : 1 < length (entries c.put_in-made.result)
+  more = many _ _ _ _ _ _ _ (p g c) _ _ _ (M g c) (λ e. n (sym (entries_length c.put_in-made.result) ∙ e))
+
+  block_is : b ≡ get_or c.args.grant (2 * suc (t g c).0) 0
+  block_is = next_place c.args.grant _ (2 * c.new-above.result.level) (2 * suc (t g c).0) b rest c.put_in-made.ensures.grant e (omega (arith, c.new-above.ensures.level, (p g c).height))
+
+  able : Topmost c.put_in-made.new.store b (view c.put_in-made.result)
+  able = link_able _ _ _ _ _ _ _ (p g c) _ _ _ (M g c) more b block_is c.requires.row.1
 
 pub link-requires : goal.link-requires
 link-requires g c =
-    let m : Meaning = g.D.Device.meaning c.args.store.now.device in
-    let cs : List ℕ = vec_items c.args.store.now.counts.of in
-    let root : Root = (c.args.root.height, c.args.root.block) in
-    let gs : List ℕ = c.args.grant.blocks in
-    let s : ℕ = c.args.row.speed in
-    let t : Tree = tree_at (current_at m) root in
-    let h = c.requires.editable.others in
-    let p = rooted m cs c.args.grant root s c.requires.editable c.requires.granted c.requires.row.0 in
-    let a : ℕ = c.args.row.value in
-    let q : State = state_of (g.D.Device.meaning c.put_in-made.new.store.device) (vec_items c.put_in-made.new.store.counts.of) in
-    let made : Block = view c.put_in-made.result in
-    let M = c.put_in-made.ensures.made (suc t.0) ((0, t.1) ∷ []) (top_ready m cs gs root s t h p (view c.single-above.result) c.single-above.ensures.level c.single-above.ensures.these) in
-    let v = many m cs gs root s t h p a q made M (λ e. c.if-made-eq1.false (sym (entries_length c.put_in-made.result) ∙ e)) in
-    let L = link_able m cs gs root s t h p a q made M v c.requires.row.1 in
-    let j : c.put_in-made.new.grant.next ≡ 2 * suc t.0 = omega (arith, c.put_in-made.ensures.next, c.single-above.ensures.level, p.height) in
-    let b : c.take-block.result ≡ get_or gs (2 * suc t.0) 0 = c.take-block.ensures.block ∙ ap₂ (λ (x : List ℕ) (i : ℕ). get_or x i 0) c.put_in-made.ensures.blocks j in
-    record { sound = c.put_in-made.ensures.sound; wide = L.0; on = omega (arith, L.1, b); within = omega (arith, L.2, b); free = ap (λ (x : ℕ). get_or q.1 x 0) b ∙ L.6; left = L.3; low = L.4 }
+    let L = able g (goal.at.link-requires g c).After-put_in-made (λ e. c.if-len-eq1.false (c.len.ensures.value ∙ e)) _ _ c.take-block.ensures in
+    record { on = L.on; free = L.free; left = L.left; low = L.low }
 
 pub invariant_of-result-2 : goal.invariant_of-result-2
 invariant_of-result-2 g c =
-    let m : Meaning = g.D.Device.meaning c.args.store.now.device in
-    let cs : List ℕ = vec_items c.args.store.now.counts.of in
-    let root : Root = (c.args.root.height, c.args.root.block) in
-    let gs : List ℕ = c.args.grant.blocks in
-    let s : ℕ = c.args.row.speed in
-    let t : Tree = tree_at (current_at m) root in
-    let h = c.requires.editable.others in
-    let p = rooted m cs c.args.grant root s c.requires.editable c.requires.granted c.requires.row.0 in
-    let a : ℕ = c.args.row.value in
-    let q : State = state_of (g.D.Device.meaning c.put_in-made.new.store.device) (vec_items c.put_in-made.new.store.counts.of) in
-    let made : Block = view c.put_in-made.result in
-    let M = c.put_in-made.ensures.made (suc t.0) ((0, t.1) ∷ []) (top_ready m cs gs root s t h p (view c.single-above.result) c.single-above.ensures.level c.single-above.ensures.these) in
-    let v = many m cs gs root s t h p a q made M (λ e. c.if-made-eq1.false (sym (entries_length c.put_in-made.result) ∙ e)) in
-    let L = link_able m cs gs root s t h p a q made M v c.requires.row.1 in
-    let j : c.put_in-made.new.grant.next ≡ 2 * suc t.0 = omega (arith, c.put_in-made.ensures.next, c.single-above.ensures.level, p.height) in
-    let b : c.take-block.result ≡ get_or gs (2 * suc t.0) 0 = c.take-block.ensures.block ∙ ap₂ (λ (x : List ℕ) (i : ℕ). get_or x i 0) c.put_in-made.ensures.blocks j in
-    record { small = (omega (arith, p.height, low m cs gs root s t h p), omega (arith, L.5, b)) }
+    let L = able g (goal.at.invariant_of-result-2 g c).After-put_in-made (λ e. c.if-len-eq1.false (c.len.ensures.value ∙ e)) _ _ c.take-block.ensures in
+    record { small = (omega (arith, c.new-above.result.few.1, c.new-above.ensures.level), L.small) }
 
 pub returns : goal.returns
 returns g c =
-    let m : Meaning = g.D.Device.meaning c.args.store.now.device in
-    let cs : List ℕ = vec_items c.args.store.now.counts.of in
-    let root : Root = (c.args.root.height, c.args.root.block) in
-    let gs : List ℕ = c.args.grant.blocks in
-    let s : ℕ = c.args.row.speed in
-    let t : Tree = tree_at (current_at m) root in
-    let h = c.requires.editable.others in
-    let p = rooted m cs c.args.grant root s c.requires.editable c.requires.granted c.requires.row.0 in
-    let a : ℕ = c.args.row.value in
-    let q : State = state_of (g.D.Device.meaning c.put_in-made.new.store.device) (vec_items c.put_in-made.new.store.counts.of) in
-    let made : Block = view c.put_in-made.result in
-    let M = c.put_in-made.ensures.made (suc t.0) ((0, t.1) ∷ []) (top_ready m cs gs root s t h p (view c.single-above.result) c.single-above.ensures.level c.single-above.ensures.these) in
-    let v = many m cs gs root s t h p a q made M (λ e. c.if-made-eq1.false (sym (entries_length c.put_in-made.result) ∙ e)) in
-    let L = link_able m cs gs root s t h p a q made M v c.requires.row.1 in
-    let j : c.put_in-made.new.grant.next ≡ 2 * suc t.0 = omega (arith, c.put_in-made.ensures.next, c.single-above.ensures.level, p.height) in
-    let b : c.take-block.result ≡ get_or gs (2 * suc t.0) 0 = c.take-block.ensures.block ∙ ap₂ (λ (x : List ℕ) (i : ℕ). get_or x i 0) c.put_in-made.ensures.blocks j in
-    let z : State = state_of (g.D.Device.meaning c.link.new.self.device) (vec_items c.link.new.self.counts.of) in
-    let at = more_root m cs gs root s t h p a q made M v c.take-block.result b in
-    let D = more_edited m cs gs root s t h p a q made M v c.take-block.result b z c.link.ensures.state (laid_out c.put_in-made.result q.0.width L.0.0 L.4) in
-    record {
-      sound = c.link.ensures.sound;
-      root = at;
-      edited = D;
-      good = good_put m cs c.args.grant root s a c.requires.editable c.requires.granted c.requires.row.0 c.requires.row.1 z.0 z.1 _ at D;
-    }
+    let d = (goal.at.returns g c).After-put_in-made in
+    let n : length c.put_in-made.result.entries.items ≡ 1 → ⊥ = λ e. c.if-len-eq1.false (c.len.ensures.value ∙ e) in
+    let m = more g d n _ _ c.take-block.ensures in
+    let e = block_is g d n _ _ c.take-block.ensures in
+    let L = able g d n _ _ c.take-block.ensures in
+    let at = more_root _ _ _ _ _ _ _ (p g d) _ _ _ (M g d) m _ e in
+    let D = more_edited _ _ _ _ _ _ _ (p g d) _ _ _ (M g d) m _ e c.link.new.self c.link.ensures (laid_out c.put_in-made.result _ L.wide L.low) in
+    record { root = at; edited = D; good = good_put _ _ _ _ _ _ c.requires.editable c.requires.granted c.requires.row.0 c.requires.row.1 _ _ _ at D }
