@@ -4,11 +4,12 @@ ghost use Rattle.device.specs.Meaning.{blocks_of, reading};
 ghost use Rattle.page.specs.Block.{block_at};
 ghost use Rattle.page.specs.Io.{Wide, ReadAs};
 ghost use Rattle.page.specs.View.{view};
+ghost use Rattle.counts.specs.Grants.{lowest_free};
 ghost use Rattle.counts.specs.Keeping.{retained};
 ghost use Rattle.counts.specs.Moves.{opening, linking, step, Shaped, Owned, Held, Dropped};
 
-use super::Counts;
-use device::{Device, DeviceFault};
+use super::{Counts, Grant};
+use device::{Device, DeviceFault, LayerMark};
 use page::io::{read_block, write_block};
 use page::page::Page;
 use page::stored::Stored;
@@ -59,6 +60,22 @@ impl<D: Device> Store<D> {
         ensures shape { Shaped self.now.0 self.now.1 }
     {
         self.device.blocks()
+    }
+
+    // How many writes are left, and which layer sets that limit.
+    pub fn left(&self) -> (u32, LayerMark)
+        ensures { result ≡ (self.now.0.left, self.now.0.left_mark) }
+    {
+        self.device.left()
+    }
+
+    // The n lowest free blocks, if there are so many.
+    pub fn grant(&self, n: usize) -> Option<Grant>
+        requires few { n ≤ 11 }
+        requires sized { (2 ≤ blocks_of self.now.0) × (blocks_of self.now.0 ≤ 4096) }
+        ensures { result ≡ lowest_free n self.now.1 }
+    {
+        Grant::lowest(&self.counts, n)
     }
 
     // What a block holds, if it holds a value.

@@ -2,3 +2,4 @@ pub mod Places
 pub mod Asking
 pub mod Clones
 pub mod Calls
+pub mod Changing

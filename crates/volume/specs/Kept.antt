@@ -1,14 +1,15 @@
 -- What a mounted volume is, and what it keeps from call to call.
-use Rattle.std.specs.Prelude.{◌≡◌, ℕ, ◌≤◌, true, List, map, length, Ok, Err, Option, Result}
+use Rattle.std.specs.Prelude.{◌≡◌, ℕ, ◌≤◌, true, List, [], ◌∷◌, map, length, Some, Ok, Err, Option, Result, nat_lt}
 use Rattle.device.specs.Meaning.{Meaning, blocks_of}
 use Rattle.device.specs.Cuts.{Op, replay}
 use Rattle.page.specs.Block.{block_at}
 use Rattle.page.specs.declared.roots.Root.{Root}
 use Rattle.page.specs.View.{root_of}
-use Rattle.counts.specs.Counts.{Counted}
+use Rattle.counts.specs.Counts.{Counted, free_blocks}
 use Rattle.counts.specs.Moves.{State}
 use Rattle.model.specs.declared.refusal.Refusal.{Refusal}
-use Rattle.model.specs.Plain.{Ask}
+use Rattle.model.specs.declared.refusal.Refusal.TheVariants.{Short, Worn}
+use Rattle.model.specs.Plain.{Ask, first}
 use Rattle.model.specs.World.{Tables, Mode.mounted, Asked, sizes}
 use Rattle.model.specs.Reach.{rootings, Standing}
 
@@ -33,3 +34,7 @@ pub record Called {X : Type 0} (q : Ask) (x : X) (v : Tables × Meaning) (r : Re
   pub os : List Op
   pub trace : w.1 ≡ replay os v.1
   pub asked : Asked Err (Ok x) v.0 v.1 q r os (mounted w.0) w.1
+
+-- the refusals of a change of clone k that needs n free blocks: too few blocks are free, or too few writes are left
+abbrev pub lacking : State → ℕ → ℕ → Option Refusal
+lacking q k n = first ((nat_lt (length (free_blocks q.1)) n, Short) ∷ (nat_lt q.0.left n, Worn (Some k) q.0.left_mark) ∷ [])

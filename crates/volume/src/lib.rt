@@ -1,13 +1,17 @@
 // The calls of a mounted volume. docs/volume.md states them.
 #![tactic(auto)]
 
-ghost use Rattle.std.specs.Prelude.{◌≡◌, ◌<◌, ◌≤◌, Some, None, IfOk, IfErr, MatchResult};
+ghost use Rattle.std.specs.Prelude.{◌≡◌, ◌<◌, ◌≤◌, true, Some, None, IfOk, IfErr, MatchResult};
 ghost use Rattle.model.specs.Plain.{Ask.create, Ask.clone, Ask.delete, early, has, place};
 ghost use Rattle.page.specs.View.{root_of};
-ghost use Rattle.volume.specs.Kept.{Called};
+ghost use Rattle.device.specs.Meaning.{blocks_of};
+ghost use Rattle.edit.specs.Edited.{Granted};
+ghost use Rattle.model.specs.World.{sizes};
+ghost use Rattle.volume.specs.Kept.{Called, lacking};
 
-use counts::Store;
+use counts::{Grant, Store};
 use device::Device;
+use edit::create_tree;
 use model::Refusal;
 use page::roots::Root;
 use std::marker::Model;
@@ -32,6 +36,29 @@ impl<D: Device> Model for Volume<D> {
     ghost view = { λ v. (tables v.working v.committed v.generation, v.store.0) };
 
     ghost invariant = { λ v. Kept (tables v.working v.committed v.generation) v.store };
+}
+
+// So many free blocks for a change of a clone; refuses where fewer are free, and where fewer writes are left.
+fn reserve<D: Device>(store: &Store<D>, clone: u32, n: u32) -> Result<Grant, Refusal>
+    requires few { n ≤ 11 }
+    requires sized { sizes (blocks_of store.now.0) store.now.0.width ≡ true }
+    ensures { MatchResult result
+        (λ grant. (lacking store.now clone n ≡ None) × Granted n store.now.0 store.now.1 grant)
+        (λ e. lacking store.now clone n ≡ Some e) }
+{
+    let Some(mut grant) = store.grant(n as usize) else {
+        return Err(Refusal::Short);
+    };
+    let (left, layer) = store.left();
+    if left < n {
+        grant.give_back_all();
+        grant.end();
+        return Err(Refusal::Worn {
+            clone: Some(clone),
+            layer,
+        });
+    }
+    Ok(grant)
 }
 
 impl<D: Device> Volume<D> {
@@ -104,6 +131,17 @@ impl<D: Device> Volume<D> {
         let root = self.find(n)?;
         self.store.release(root.block, root.height - 1);
         self.working[n as usize] = None;
+        Ok(())
+    }
+
+    // Makes a clone that has no row.
+    pub fn create(&mut self, n: u32) -> Result<(), Refusal>
+        ensures { Called (create n) tt self.old result self.new }
+    {
+        self.check_vacant(n)?;
+        let grant = reserve(&self.store, n, 1)?;
+        let root = create_tree(&mut self.store, grant);
+        self.working[n as usize] = Some(root);
         Ok(())
     }
 }
