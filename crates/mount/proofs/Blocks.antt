@@ -1,20 +1,24 @@
 -- One block: its own fault, and what is known where it has none.
 use Rattle.std.proofs.Common.{◌≡◌, ℕ, ◌<◌, ◌≤◌, Bool, true, false, cond, ◌&&◌, ltb, leb, List, length, Some, None, Ok, Err, Option, Result, sym, refl, ap, ◌∙◌, subst, arith}
 use Rattle.std.proofs.lemmas.Bool.{and_parts, leb-true}
-use Rattle.std.specs.Option.{option_or}
+use Rattle.std.specs.Bool.{then_some}
+use Rattle.std.specs.Option.{MatchOption, ok_or, option_map, option_or}
+use Rattle.std.specs.Result.{MatchResult}
 use Rattle.device.specs.declared.Layer.{Layer}
 use Rattle.device.specs.declared.DeviceFault.{DeviceFault}
-use Rattle.device.specs.Meaning.{Meaning, Content, words, damaged, blocks_of, current_at, held, reading, answered, filled}
+use Rattle.device.specs.Meaning.{Meaning, Content, words, damaged, blocks_of, current_at, held, reading}
 use Rattle.device.proofs.Calls.{reading_at}
 use Rattle.page.specs.Block.{Block, decode, block_in, block_at, read, fits, same, encode}
+use Rattle.page.specs.Io.{ReadAs}
 use Rattle.page.specs.View.{view}
 use Rattle.page.specs.declared.page.Page.{Page}
-use Rattle.model.specs.declared.refusal.Refusal.TheVariants as refusals
+use Rattle.model.specs.declared.refusal.Refusal.{Refusal}
+use Rattle.model.specs.declared.refusal.Refusal.TheVariants.{Malformed}
 use Rattle.model.specs.TreeBlocks.{entries_in}
 use Rattle.model.specs.Walk.{Fault, well_made, if_made, in_block, in_content, fault_below, fault_at}
 use Rattle.model.proofs.Walks.{content_part, Made, made_parts}
 use Rattle.mount.specs.declared.walk.Due.{Due}
-use Rattle.mount.specs.Due.{own_fault, first_fault, passes, met_at, Loaded}
+use Rattle.mount.specs.Due.{own_fault, first_fault, passes, Loaded}
 
 -- the fault at a block: its own, or else the first below
 module _ (n k l lo hi b : ℕ) (f : List (ℕ × ℕ) → Option Fault) where
@@ -72,34 +76,49 @@ pub few : (m : Meaning) (b : ℕ) (x : Block) → block_at m b ≡ Some x → le
 unfolding block_at
 few m b x h = few_content (current_at m b) x h
 
--- a read that was answered: the buffer has the block's words
-held_words : (k : Content) (buf : List ℕ) → answered (held k) ≡ Ok tt → k ≡ words (filled (held k) buf)
-held_words (words ws) buf h = refl
-held_words (damaged k) buf h = absurd (let z : ◌≡◌ {A = ℕ} 0 1 = cc in omega arith)
+-- what is read of a block is held there
+held_ok : (k : Content) (ws : List ℕ) → held k ≡ Ok ws → k ≡ words ws
+held_ok (words vs) ws h = let e : vs ≡ ws = cc in ap words e
+held_ok (damaged k) ws h = absurd (let z : ◌≡◌ {A = ℕ} 0 1 = cc in omega arith)
 
-pub read_words : (c : Layer) (m : Meaning) (b n : ℕ) (buf out : List ℕ) (r : Result Unit DeviceFault) → n ≡ m.width → b < blocks_of m
-    → r ≡ Ok tt → r ≡ answered (reading c m b n) → out ≡ filled (reading c m b n) buf → current_at m b ≡ words out
-read_words c m b n buf out r e h p a o =
-    let i = reading_at c m b n e h in
-    held_words (current_at m b) buf (sym (ap answered i) ∙ sym a ∙ p) ∙ ap words (sym (o ∙ ap (λ s. filled s buf) i))
+pub read_words : (c : Layer) (m : Meaning) (b : ℕ) (ws : List ℕ) → b < blocks_of m → reading c m b m.width ≡ Ok ws → current_at m b ≡ words ws
+read_words c m b ws lt h = held_ok (current_at m b) ws (sym (reading_at c m b m.width refl lt) ∙ h)
 
-pub met_ok : (r : Result Unit DeviceFault) (k b : ℕ) → Ok tt ≡ met_at r k b → r ≡ Ok tt
-met_ok (Ok tt) k b h = refl
-met_ok (Err f) k b h = absurd (let z : ◌≡◌ {A = ℕ} 0 1 = cc in omega arith)
+-- an answer that was good stays so when its refusal is put in other words
+pub ok_of : {T E : Type 0} (F : Type 0) (r : Result T E) (x : T) → MatchResult r (λ y. ◌≡◌ {A = Result T F} (Ok x) (Ok y)) (λ e. ⊥) → r ≡ Ok x
+ok_of F (Ok y) x h = let e : x ≡ y = cc in ap Ok (sym e)
+ok_of F (Err e) x h = absurd h
 
-module _ (m : Meaning) (d : Due) where
-  own_of : (out : List ℕ) (o : Option Block) → current_at m d.block ≡ words out → o ≡ decode out → own_fault m d ≡ in_block (blocks_of m) d.least d.level d.low d.high d.block (λ es. None) o
-  own_of out o e s =
+-- the page that was read where it is due
+module _ (c : Layer) (m : Meaning) (d : Due) (lt : d.block < blocks_of m) where
+  abbrev made : Page → Bool
+  made p = well_made (blocks_of m) d.least d.level d.low d.high (view p)
+
+  abbrev Outcome : Result Page Refusal → Type 0
+  Outcome r = MatchResult r (λ p. Loaded m d p) (λ e. Err e ≡ passes d.clone (own_fault m d))
+
+  own_of : (ws : List ℕ) (o : Option Block) → current_at m d.block ≡ words ws → o ≡ decode ws → own_fault m d ≡ in_block (blocks_of m) d.least d.level d.low d.high d.block (λ es. None) o
+  own_of ws o e s =
       ap (in_content (blocks_of m) d.least d.level d.low d.high d.block (λ es. None)) e
       ∙ ap (in_block (blocks_of m) d.least d.level d.low d.high d.block (λ es. None)) (sym s)
 
-  module _ (p : Page) (out : List ℕ) (e : current_at m d.block ≡ words out) (s : Some (view p) ≡ decode out) where
-    by_test : (t : Bool) → t ≡ well_made (blocks_of m) d.least d.level d.low d.high (view p) → own_fault m d ≡ if_made d.block t None
-    by_test t k = own_of out (Some (view p)) e s ∙ ap (λ x. if_made d.block x None) (sym k)
+  by_test : (p : Page) (ws : List ℕ) (t : Bool) → current_at m d.block ≡ words ws → Some (view p) ≡ decode ws → t ≡ made p → Outcome (ok_or (then_some t p) (Malformed d.block d.clone))
+  unfolding block_at
+  by_test p ws true e s k = record { fine = own_of ws (Some (view p)) e s ∙ ap (λ x. if_made d.block x None) (sym k); here = ap block_in e ∙ sym s }
+  by_test p ws false e s k = sym (ap (passes d.clone) (own_of ws (Some (view p)) e s ∙ ap (λ x. if_made d.block x None) (sym k)))
 
-    pub load_made : true ≡ well_made (blocks_of m) d.least d.level d.low d.high (view p) → Loaded m d p
-    unfolding block_at
-    load_made k = record { fine = by_test true k; here = ap block_in e ∙ sym s }
+  loaded_as : (o q : Option Page) (r : Result Page Refusal) → ReadAs (λ ws p. option_map view p ≡ decode ws) (reading c m d.block m.width) (Ok o)
+      → MatchOption o (q ≡ None) (λ p. (t : Bool) × (t ≡ made p) × (q ≡ then_some t p)) → r ≡ ok_or q (Malformed d.block d.clone) → Outcome r
+  loaded_as None q r a f e =
+      subst Outcome (sym (e ∙ ap (λ (q : Option Page). ok_or q (Malformed d.block d.clone)) f)) (sym (ap (passes d.clone) (own_of a.0 None (read_words c m d.block a.0 lt a.1) a.2)))
+  loaded_as (Some p) q r a f e =
+      subst Outcome (sym (e ∙ ap (λ (q : Option Page). ok_or q (Malformed d.block d.clone)) f.2)) (by_test p a.0 f.0 (read_words c m d.block a.0 lt a.1) a.2 f.1)
 
-    pub load_unmade : false ≡ well_made (blocks_of m) d.least d.level d.low d.high (view p) → Err (refusals.Malformed d.block d.clone) ≡ passes d.clone (own_fault m d)
-    load_unmade k = sym (ap (passes d.clone) (by_test false k))
+  pub loaded : (F : Type 0) (G : Page → Bool → Type 0) (a : Result (Option Page) DeviceFault) (o q : Option Page) (r : Result Page Refusal) → ReadAs (λ ws p. option_map view p ≡ decode ws) (reading c m d.block m.width) a
+      → MatchResult a (λ x. ◌≡◌ {A = Result (Option Page) F} (Ok o) (Ok x)) (λ e. ⊥) → MatchOption o (q ≡ None) (λ p. (t : Bool) × G p t × (q ≡ then_some t p)) → ((p : Page) (t : Bool) → G p t → t ≡ made p)
+      → r ≡ ok_or q (Malformed d.block d.clone) → Outcome r
+  loaded F G a o q r h s f by = loaded_as o q r (subst (ReadAs (λ ws p. option_map view p ≡ decode ws) (reading c m d.block m.width)) (ok_of F a o s) h) (tested o f)
+    where
+      tested : (o : Option Page) → MatchOption o (q ≡ None) (λ p. (t : Bool) × G p t × (q ≡ then_some t p)) → MatchOption o (q ≡ None) (λ p. (t : Bool) × (t ≡ made p) × (q ≡ then_some t p))
+      tested None f = f
+      tested (Some p) f = (f.0, by p f.0 f.1, f.2)

@@ -7,13 +7,14 @@ use Rattle.device.specs.Meaning.{Meaning, blocks_of, current_at}
 use Rattle.page.specs.Block.{block_at, kids_of}
 use Rattle.page.specs.Slot.{Root, Table, rooted}
 use Rattle.counts.specs.Counts.{one, occ, parents, Counted}
+use Rattle.counts.specs.Keeping.{retained}
+use Rattle.counts.specs.Moves.{Shaped}
 use Rattle.counts.proofs.Parents.{one_same, one_other}
 use Rattle.model.specs.TreeBlocks.{top_level}
 use Rattle.model.specs.Walk.{least, fault_of}
 use Rattle.model.specs.World.{fresh}
 use Rattle.model.specs.Reach.{roots_of, rootings}
-use Rattle.mount.specs.Due.{Usable}
-use Rattle.mount.specs.Tally.{Owing, bumped, tallied, Room, Fine}
+use Rattle.mount.specs.Tally.{Owing, tallied, Room, Fine}
 use Rattle.mount.specs.Counting.{place_walk, count_at, Counting, Ready}
 use Rattle.mount.proofs.Tally.{tallies, count_more}
 use Rattle.mount.proofs.Walking.{occ_le, count_small, passes_none}
@@ -90,11 +91,11 @@ module _ (m : Meaning) (cs : List ℕ) (r : Root) (y : Ready m cs) (low : r.0 �
   pub walked_long : length ds ≡ blocks_of m
   walked_long = walked.0 ∙ y.counting.long
 
-  pub walked_small : Usable m → get_or ds b 0 < 65535
-  walked_small u = count_small m ds (b ∷ []) b walked_long u
+  pub walked_small : Shaped m cs → get_or ds b 0 < 65535
+  walked_small s = count_small m ds (b ∷ []) b (record { lawful = s.lawful; wide = s.wide; sized = walked_long })
       (record { outside = outs y.roots b; others = λ x. 0; owing = λ x. omega (arith, after x); modest = λ x. outs_few y.roots b x y.few })
 
-  pub counting_step : Counting m (bumped b ds) (y.roots ++ b ∷ [])
+  pub counting_step : Counting m (retained b ds) (y.roots ++ b ∷ [])
   counting_step =
       let h : ℕ → ℕ = outs y.roots b in
       let own : Owing (block_at m) ds h (λ x. one b x + 0) = λ x. omega (arith, after x) in

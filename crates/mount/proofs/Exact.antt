@@ -1,15 +1,17 @@
 -- Mount accepts exactly the images that keep the layout.
-use Rattle.std.proofs.Common.{◌≡◌, ℕ, Bool, true, false, cond, Some, None, Ok, Err, Option, Result, sym, refl, ap, ◌∙◌, subst, arith}
+use Rattle.std.proofs.Common.{◌≡◌, ℕ, Bool, true, false, cond, List, Some, None, Ok, Err, Option, Result, sym, refl, ap, ◌∙◌, subst, inl, arith}
 use Rattle.device.specs.Meaning.{Meaning, Lawful, blocks_of, current_at}
 use Rattle.page.specs.Slot.{Table}
 use Rattle.model.specs.declared.refusal.Refusal.{Refusal}
 use Rattle.model.specs.declared.refusal.Refusal.TheVariants.{Shape, NoVolume}
 use Rattle.model.specs.TreeBlocks.{Good, AllGood}
 use Rattle.model.specs.Walk.{Fault, walk}
+use Rattle.model.specs.Reach.{roots_of}
 use Rattle.model.specs.World.{sizes, found, faulty, walked}
 use Rattle.model.proofs.Walks.{walk_exact}
-use Rattle.mount.specs.Counting.{verdict, table_walk}
-use Rattle.mount.specs.Mounts.{current_slot, Kept, MountExact}
+use Rattle.mount.specs.Counting.{verdict, table_walk, Counting}
+use Rattle.mount.specs.Mounts.{current_slot, Kept, MountExact, Accepted, Refused}
+use Rattle.mount.proofs.Counting.{counted}
 use Rattle.mount.proofs.Slots.{usable_of, usable_to, pair_of, pair_used, used_rooted}
 
 -- what mount finds, by its parts
@@ -80,3 +82,12 @@ mount_exact m x w = (
 -- an image that is refused is off the layout
 pub off_layout : (m : Meaning) (e : Refusal) → Lawful m → found m ≡ Err e → (x : ℕ × Table) → Kept m x → ⊥
 off_layout m e w h x k = absurd (let p : ◌≡◌ {A = Result (ℕ × Table) Refusal} (Err e) (Ok x) = sym h ∙ (mount_exact m x w).1 k in let z : ◌≡◌ {A = ℕ} 0 1 = cc in omega arith)
+
+-- what mount answers, by what is found
+pub accepted : (m : Meaning) (x : ℕ × Table) (cs : List ℕ) → Lawful m → found m ≡ Ok x → Counting m cs (roots_of x.1) → Accepted m x cs
+accepted m x cs w h c =
+    let k = (mount_exact m x w).0 h in
+    record { found = h; kept = k; sizes = usable_to m k.usable; standing = (k.trees, k.trees); counted = counted m cs x c; long = c.long }
+
+pub refused : (m : Meaning) (e : Refusal) → Lawful m → found m ≡ Err e → Refused m e
+refused m e w h = inl (record { found = h; off = off_layout m e w h })

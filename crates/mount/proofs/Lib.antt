@@ -1,3 +1,4 @@
+pub mod Lists
 pub mod Pages
 pub mod Blocks
 pub mod Tally

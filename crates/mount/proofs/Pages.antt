@@ -1,62 +1,73 @@
 -- The tests of a page, entry by entry.
-use Rattle.std.proofs.Common.{◌≡◌, ℕ, zero, suc, ◌+◌, ◌<◌, ◌≤◌, Bool, true, false, ◌&&◌, eqb, ltb, leb, [], ◌∷◌, length, get_or, drop, sym, refl, ap, ◌∙◌, arith}
-use Rattle.std.proofs.lemmas.List.{drop_more, drop_all}
-use Rattle.std.proofs.lemmas.Bool.{eq-eqb, le-leb}
-use Rattle.page.specs.Slot.{every}
-use Rattle.page.specs.View.{entries, view}
-use Rattle.page.specs.declared.page.Page.{Page}
+use Rattle.std.proofs.Common.{◌≡◌, ℕ, zero, suc, ◌+◌, ◌-◌, ◌<◌, ◌≤◌, Bool, true, false, ◌&&◌, ltb, List, [], ◌∷◌, map, length, get_or, drop, Some, None, Option, MatchOption, Bor, sym, refl, ap, ◌∙◌, arith}
+use Rattle.std.specs.List.{IsAllAdjacentAnswer}
+use Rattle.std.specs.Slice.{IsItemAt, IsGetResult}
+use Rattle.page.specs.View.{pair}
 use Rattle.page.specs.declared.page.Entry.{Entry}
-use Rattle.page.proofs.Pages.{entries_length, entries_at}
 use Rattle.tree.specs.Layout.{next}
-use Rattle.model.specs.Walk.{ascending, starts, payable, well_made}
+use Rattle.model.specs.Walk.{ascending}
+use Rattle.mount.proofs.Lists.{drop_here, drop_past}
 
-pub drop_entry : (p : Page) (i : ℕ) (r : Entry) → i < p.len → drop i (entries p) ≡ ((get_or p.items i r).speed, (get_or p.items i r).value) ∷ drop (i + 1) (entries p)
-drop_entry p i r h = drop_more (entries p) i (0, 0) (omega (arith, entries_length p)) ∙ ap (λ e. e ∷ drop (i + 1) (entries p)) (entries_at p i r h)
+-- the bound above an entry, looked up at the next
+pub next_at : (xs : List Entry) (i hi v : ℕ) (o : Option (Bor Entry)) → IsItemAt xs i o → MatchOption o (v ≡ hi) (λ x. v ≡ x.now.speed) → v ≡ next hi (drop i (map pair xs))
+next_at xs i hi v None a m = m ∙ sym (ap (next hi) (drop_past pair xs i a.3))
+next_at xs i hi v (Some x) a m = m ∙ sym (ap (next hi) (drop_here pair xs i x.now a.1 a.3.0))
 
-pub past : (p : Page) (i : ℕ) → p.len ≤ i → drop i (entries p) ≡ []
-past p i h = drop_all i (entries p) (omega (arith, entries_length p))
+-- whether speeds ascend, and whether the last is below hi
+rising : List Entry → Bool
+rising [] = true
+rising (x ∷ []) = true
+rising (x ∷ (y ∷ r)) = ltb x.speed y.speed && rising (y ∷ r)
 
-pub next_some : (p : Page) (i hi : ℕ) (r : Entry) → i < p.len → next hi (drop i (entries p)) ≡ (get_or p.items i r).speed
-next_some p i hi r h = ap (next hi) (drop_entry p i r h)
+abbrev pub last_below : ℕ → List Entry → Bool
+last_below hi [] = true
+last_below hi (x ∷ []) = ltb x.speed hi
+last_below hi (x ∷ (y ∷ r)) = last_below hi (y ∷ r)
 
-pub next_none : (p : Page) (i hi : ℕ) → p.len ≤ i → next hi (drop i (entries p)) ≡ hi
-next_none p i hi h = ap (next hi) (past p i h)
+and_assoc : (a b c : Bool) → (a && (b && c)) ≡ ((a && b) && c)
+and_assoc true b c = refl
+and_assoc false b c = refl
 
-pub starts_leaf : (p : Page) (l lo : ℕ) (r : Entry) → 0 < p.len → l ≡ 0 → leb lo (get_or p.items 0 r).speed ≡ starts l lo (entries p)
-starts_leaf p l lo r h e = sym (ap (starts l lo) (drop_entry p 0 r h) ∙ ap (λ k. starts k lo (((get_or p.items 0 r).speed, (get_or p.items 0 r).value) ∷ drop (0 + 1) (entries p))) e)
+and_false : (a b : Bool) → false ≡ b → false ≡ (a && b)
+and_false true b h = h
+and_false false b h = refl
 
-pub starts_index : (p : Page) (l lo : ℕ) (r : Entry) → 0 < p.len → (l ≡ 0 → ⊥) → eqb lo (get_or p.items 0 r).speed ≡ starts l lo (entries p)
-starts_index p l lo r h ne = by l ne ∙ sym (ap (starts l lo) (drop_entry p 0 r h))
+ascending_parts : (hi : ℕ) (xs : List Entry) → ascending hi (map pair xs) ≡ (rising xs && last_below hi xs)
+unfolding rising
+ascending_parts hi [] = refl
+ascending_parts hi (x ∷ []) = go (ltb x.speed hi)
   where
-    by : (l : ℕ) → (l ≡ 0 → ⊥) → eqb lo (get_or p.items 0 r).speed ≡ starts l lo (((get_or p.items 0 r).speed, (get_or p.items 0 r).value) ∷ drop (0 + 1) (entries p))
-    by zero ne = absurd (ne refl)
-    by (suc l) ne = refl
+    go : (t : Bool) → (t && true) ≡ t
+    go true = refl
+    go false = refl
+ascending_parts hi (x ∷ (y ∷ r)) = ap (λ t. ltb x.speed y.speed && t) (ascending_parts hi (y ∷ r)) ∙ and_assoc (ltb x.speed y.speed) (rising (y ∷ r)) (last_below hi (y ∷ r))
 
-pub ascending_step : (p : Page) (hi i : ℕ) (r : Entry) → i < p.len
-    → ascending hi (drop i (entries p)) ≡ (ltb (get_or p.items i r).speed (next hi (drop (i + 1) (entries p))) && ascending hi (drop (i + 1) (entries p)))
-ascending_step p hi i r h = ap (ascending hi) (drop_entry p i r h)
+up : (x : Entry) (xs : List Entry) (k : ℕ) (d : Entry) → ltb (get_or xs k d).speed (get_or (x ∷ xs) (suc k + 1) d).speed ≡ ltb (get_or xs k d).speed (get_or xs (k + 1) d).speed
+up x xs k d = let e : suc k + 1 ≡ suc (k + 1) = omega arith in ap (λ n. ltb (get_or xs k d).speed (get_or (x ∷ xs) n d).speed) e
 
-pub payable_step : (p : Page) (n l i : ℕ) (r : Entry) → i < p.len
-    → every (payable n l) (drop i (entries p)) ≡ (payable n l ((get_or p.items i r).speed, (get_or p.items i r).value) && every (payable n l) (drop (i + 1) (entries p)))
-payable_step p n l i r h = ap (every (payable n l)) (drop_entry p i r h)
+rising_is : (xs : List Entry) (r : Bool) → IsAllAdjacentAnswer (λ (x y : Entry) (t : Bool). t ≡ ltb x.speed y.speed) xs r → r ≡ rising xs
+unfolding rising
+rising_is [] true h = refl
+rising_is [] false h = absurd (omega (arith, h.1))
+rising_is (x ∷ []) true h = refl
+rising_is (x ∷ []) false h = absurd (omega (arith, h.1))
+rising_is (x ∷ (y ∷ r)) true h = ap (λ t. t && true) (h 0 x (omega arith)) ∙ ap (λ t. ltb x.speed y.speed && t) (rising_is (y ∷ r) true (λ k d l. h (suc k) d (omega (arith, l)) ∙ up x (y ∷ r) k d))
+rising_is (x ∷ (y ∷ r)) false (zero, l, h) = ap (λ t. t && rising (y ∷ r)) (h x)
+rising_is (x ∷ (y ∷ r)) false (suc k, l, h) = and_false (ltb x.speed y.speed) (rising (y ∷ r)) (rising_is (y ∷ r) false (k, omega (arith, l), (λ d. h d ∙ up x (y ∷ r) k d)))
 
--- the parts of a block's test, in another order
-regroup : (a b c d e f : Bool) → (a && (b && (c && (d && (e && f))))) ≡ ((a && (b && c)) && ((d && e) && f))
-regroup false b c d e f = refl
-regroup true false c d e f = refl
-regroup true true false d e f = refl
-regroup true true true false e f = refl
-regroup true true true true false f = refl
-regroup true true true true true f = refl
+module _ (hi : ℕ) (xs : List Entry) where
+  pub ascending_if : (r : Bool) → IsAllAdjacentAnswer (λ (x y : Entry) (t : Bool). t ≡ ltb x.speed y.speed) xs r → ascending hi (map pair xs) ≡ (r && last_below hi xs)
+  ascending_if r h = ascending_parts hi xs ∙ ap (λ t. t && last_below hi xs) (sym (rising_is xs r h))
 
--- a page of the right level, test by test
-pub made_by : (p : Page) (n k l lo hi : ℕ) → p.level ≡ l → well_made n k l lo hi (view p) ≡ (starts l lo (entries p) && (ascending hi (entries p) && (leb k p.len && every (payable n l) (entries p))))
-made_by p n k l lo hi e =
-    let S : Bool = starts l lo (entries p) in
-    let A : Bool = ascending hi (entries p) in
-    let P : Bool = every (payable n l) (entries p) in
-    let len : ℕ = length (entries p) in
-    sym (regroup (eqb p.level l) S A (leb k len) (leb len 15) P)
-    ∙ ap (λ t. t && (S && (A && (leb k len && (leb len 15 && P))))) (eq-eqb p.level l e)
-    ∙ ap (λ t. S && (A && (leb k len && (t && P)))) (le-leb len 15 (omega (arith, entries_length p, p.few.0)))
-    ∙ ap (λ m. S && (A && (leb k m && P))) (entries_length p)
+  pub last_below_by : (o : Option (Bor Entry)) (t : Bool) → IsGetResult xs 0 (length xs - 1) o → MatchOption o (t ≡ true) (λ x. t ≡ ltb x.now.speed hi) → t ≡ last_below hi xs
+  last_below_by None t h m = m ∙ none xs h.3
+    where
+      none : (xs : List Entry) → length xs ≤ 0 → true ≡ last_below hi xs
+      none [] l = refl
+      none (x ∷ r) l = absurd (omega (arith, l))
+  last_below_by (Some x) t h m = m ∙ ap (λ (e : Entry). ltb e.speed hi) h.1 ∙ last xs x.now h.3.0
+    where
+      last : (xs : List Entry) (d : Entry) → 0 < length xs → ltb (get_or xs (length xs - 1) d).speed hi ≡ last_below hi xs
+      last [] d l = absurd (omega (arith, l))
+      last (x ∷ []) d l = refl
+      last (x ∷ (y ∷ r)) d l = ap (λ n. ltb (get_or (x ∷ (y ∷ r)) n d).speed hi) (let e : suc (suc (length r)) - 1 ≡ suc (suc (length r) - 1) = omega arith in e) ∙ last (y ∷ r) d (omega arith)

@@ -1,15 +1,25 @@
 -- The two slots of a device, and the one that is used.
-use Rattle.std.proofs.Common.{◌≡◌, ℕ, zero, suc, ◌%◌, ◌<◌, ◌≤◌, Bool, true, false, cond, ◌&&◌, eqb, leb, ◌⊎◌, List, [], ◌∷◌, length, get_or, take, drop, Some, None, Option, sym, refl, ap, ◌∙◌, subst, inl, inr, ⊎_elim, arith}
+use Rattle.std.proofs.Common.{◌≡◌, ℕ, zero, suc, ◌%◌, ◌<◌, ◌≤◌, Bool, true, false, cond, ◌&&◌, eqb, leb, ◌⊎◌, List, [], ◌∷◌, length, get_or, take, drop, Some, None, Ok, Err, Option, Result, sym, refl, ap, ◌∙◌, subst, inl, inr, ⊎_elim, arith}
 use Rattle.std.proofs.lemmas.List.{length-map, length-drop, length-take-le}
 use Rattle.std.proofs.lemmas.Bool.{and_parts, and_from, leb-true, le-leb, eqb-true, eq-eqb, ne_eqb, cases_eq, cases_lt}
+use Rattle.std.specs.Bool.{then_some}
 use Rattle.std.specs.List.{AllByRecursion}
-use Rattle.device.specs.Meaning.{Meaning, Cell, Content, Held, Lawful, LawfulCell, words, damaged, blocks_of, current_at, no_cell}
+use Rattle.std.specs.Option.{MatchOption, ok_or, option_map}
+use Rattle.std.specs.Result.{result_ok}
+use Rattle.device.specs.declared.DeviceFault.{DeviceFault}
+use Rattle.device.specs.declared.Layer.{Layer}
+use Rattle.device.specs.Meaning.{Meaning, Cell, Content, Held, Lawful, LawfulCell, words, damaged, blocks_of, current_at, no_cell, reading}
 use Rattle.page.specs.Block.{same}
+use Rattle.page.specs.Io.{ReadAs}
 use Rattle.page.specs.Slot.{Table, every, rooted, clone_read, slot_words, slot_loose, decode_slot, slot_stands, if_stands, slot_read, SlotFits}
+use Rattle.page.specs.View.{slot_of}
+use Rattle.page.specs.declared.roots.Slot.{Slot}
 use Rattle.page.proofs.Slots.{slots_exact, slot_back}
+use Rattle.model.specs.declared.refusal.Refusal.{Refusal}
 use Rattle.model.specs.World.{sizes, slot_in, latest}
 use Rattle.mount.specs.Due.{Usable}
 use Rattle.mount.specs.Mounts.{current_slot, Holds}
+use Rattle.mount.proofs.Blocks.{read_words}
 
 pub usable_of : (m : Meaning) → sizes (blocks_of m) m.width ≡ true → Usable m
 usable_of m h =
@@ -26,6 +36,26 @@ usable_to m u =
 
 pub fits_from : (m : Meaning) (b w : ℕ) → b ≡ blocks_of m → w ≡ m.width → true ≡ sizes b w → sizes (blocks_of m) m.width ≡ true
 fits_from m b w e f h = ap (λ n. sizes n m.width) (sym e) ∙ ap (sizes b) (sym f) ∙ sym h
+
+-- the slot that was read of a block, if it stands there
+ok_some : {T E : Type 0} (r : Result T E) (x : T) → Some x ≡ result_ok r → r ≡ Ok x
+ok_some (Ok y) x h = let e : x ≡ y = cc in ap Ok (sym e)
+ok_some (Err e) x h = absurd (let z : ◌≡◌ {A = ℕ} 0 1 = cc in omega arith)
+
+pub stands_read : (c : Layer) (m : Meaning) (b : ℕ) (G : Slot → Bool → Type 0) (r : Result (Option Slot) DeviceFault) (o q : Option Slot) → b < blocks_of m
+    → ReadAs (λ ws s. option_map slot_of s ≡ decode_slot ws) (reading c m b m.width) r → Some o ≡ result_ok r → MatchOption o (q ≡ None) (λ s. (t : Bool) × G s t × (q ≡ then_some t s))
+    → ((s : Slot) (t : Bool) → G s t → t ≡ slot_stands (blocks_of m) b (slot_of s)) → option_map slot_of q ≡ slot_in (blocks_of m) b (current_at m b)
+stands_read c m b G r o q lt a h f by =
+    let k = subst (ReadAs (λ ws s. option_map slot_of s ≡ decode_slot ws) (reading c m b m.width)) (ok_some r o h) a in
+    go o f ∙ ap (if_stands (blocks_of m) b) k.2 ∙ sym (ap (slot_in (blocks_of m) b) (read_words c m b k.0 lt k.1))
+  where
+    tested : (s : Slot) (t : Bool) → option_map slot_of (then_some t s) ≡ cond t (Some (slot_of s)) None
+    tested s true = refl
+    tested s false = refl
+
+    go : (o : Option Slot) → MatchOption o (q ≡ None) (λ s. (t : Bool) × G s t × (q ≡ then_some t s)) → option_map slot_of q ≡ if_stands (blocks_of m) b (option_map slot_of o)
+    go None f = ap (option_map slot_of) f
+    go (Some s) f = ap (option_map slot_of) f.2 ∙ tested s f.0 ∙ ap (λ t. cond t (Some (slot_of s)) None) (by s f.0 f.1)
 
 -- what is read of a slot's words
 some_of : (b : Bool) (x y : ℕ × Table) → cond b (Some x) None ≡ Some y → x ≡ y
@@ -143,3 +173,7 @@ pub used_rooted : (m : Meaning) (x : ℕ × Table) → current_slot m ≡ Some x
 used_rooted m x h =
     let l = later_parts (slot_in (blocks_of m) 0 (current_at m 0)) (slot_in (blocks_of m) 1 (current_at m 1)) x h in
     ⊎_elim (λ o. rooted_in (blocks_of m) 0 (current_at m 0) x o.0) (λ o. rooted_in (blocks_of m) 1 (current_at m 1) x o.1) l.order
+
+pub slot_used : (m : Meaning) (o : Option Slot) (s : Slot) (e : Refusal) → option_map slot_of o ≡ current_slot m → Ok s ≡ ok_or o e → current_slot m ≡ Some (slot_of s)
+slot_used m (Some t) s e h k = let q : t ≡ s = cc in sym h ∙ ap (λ s. Some (slot_of s)) q
+slot_used m None s e h k = absurd (let z : ◌≡◌ {A = ℕ} 0 1 = cc in omega arith)

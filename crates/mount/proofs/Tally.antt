@@ -7,11 +7,12 @@ use Rattle.page.specs.Block.{Block, block_at, kids_of, level_of, children}
 use Rattle.page.specs.Slot.{every}
 use Rattle.tree.specs.Layout.{next}
 use Rattle.counts.specs.Counts.{one, occ, live}
+use Rattle.counts.specs.Keeping.{retained}
 use Rattle.counts.proofs.Parents.{one_same, one_other, live_pos, parents_set}
 use Rattle.model.specs.TreeBlocks.{entries_in}
 use Rattle.model.specs.Walk.{payable, fault_below, fault_at}
 use Rattle.model.proofs.Walks.{either_none}
-use Rattle.mount.specs.Tally.{Owing, bumped, along, tallied, kids, Fine}
+use Rattle.mount.specs.Tally.{Owing, along, tallied, kids, Fine}
 use Rattle.mount.proofs.Blocks.{sound_block}
 
 -- a reference that was owed is counted
@@ -20,7 +21,7 @@ at_same cs x v b h e = subst (λ n. get_or (set cs x v) n 0 ≡ v) (sym e) (get_
 
 module _ (g : ℕ → Option Block) (cs : List ℕ) (h owed : ℕ → ℕ) (x : ℕ) (lt : x < length cs) (c : Owing g cs h (λ b. one x b + owed b)) where
   -- it is not the first
-  pub count_more : 0 < get_or cs x 0 → Owing g (bumped x cs) h owed
+  pub count_more : 0 < get_or cs x 0 → Owing g (retained x cs) h owed
   count_more a b =
       let step = parents_set (λ y. kids_of (g y)) cs x (get_or cs x 0 + 1) b lt in
       let l1 = live_pos (get_or cs x 0) (occ b (kids_of (g x))) a in
@@ -30,7 +31,7 @@ module _ (g : ℕ → Option Block) (cs : List ℕ) (h owed : ℕ → ℕ) (x : 
       (λ ne. omega (arith, c b, step, l1, l2, one_other x b ne, get_or-set_other cs x b (get_or cs x 0 + 1) 0 ne)) (cases_eq b x)
 
   -- it is the first: those of the children are owed now
-  pub count_first : get_or cs x 0 ≡ 0 → Owing g (bumped x cs) h (λ b. occ b (kids_of (g x)) + owed b)
+  pub count_first : get_or cs x 0 ≡ 0 → Owing g (retained x cs) h (λ b. occ b (kids_of (g x)) + owed b)
   count_first z b =
       let step = parents_set (λ y. kids_of (g y)) cs x (get_or cs x 0 + 1) b lt in
       let l1 = ap (λ n. live n (occ b (kids_of (g x)))) z in
@@ -83,8 +84,8 @@ module _ (m : Meaning) where
         below = λ y p. omega (arith, level_is k (suc l) lo hi b f, kids_level l hi s.block.entries y s.below (subst (λ ks. 0 < occ y ks) some p));
       }
 
-  at_bumped : (cs : List ℕ) (b x : ℕ) → 0 < get_or (bumped b cs) x 0 → (0 < get_or cs x 0) ⊎ (x ≡ b)
-  at_bumped cs b x p = ⊎_elim (λ e. inr e) (λ ne. inl (subst (λ n. 0 < n) (get_or-set_other cs b x (get_or cs b 0 + 1) 0 ne) p)) (cases_eq x b)
+  at_retained : (cs : List ℕ) (b x : ℕ) → 0 < get_or (retained b cs) x 0 → (0 < get_or cs x 0) ⊎ (x ≡ b)
+  at_retained cs b x p = ⊎_elim (λ e. inr e) (λ ne. inl (subst (λ n. 0 < n) (get_or-set_other cs b x (get_or cs b 0 + 1) 0 ne) p)) (cases_eq x b)
 
   abbrev Tallies : ℕ → Type 0
   Tallies l = (k lo hi b : ℕ) (cs : List ℕ) → b < length cs → length cs ≡ blocks_of m → Faultless k l lo hi b → Does m cs (tallied m l b cs) (one b)
@@ -106,10 +107,10 @@ module _ (m : Meaning) where
       )
 
   bump : (k l lo hi b : ℕ) (cs : List ℕ) → l < 5 → Faultless k l lo hi b
-      → (length (bumped b cs) ≡ length cs) × ((x : ℕ) → 0 < get_or (bumped b cs) x 0 → (0 < get_or cs x 0) ⊎ Fine (block_at m) x)
+      → (length (retained b cs) ≡ length cs) × ((x : ℕ) → 0 < get_or (retained b cs) x 0 → (0 < get_or cs x 0) ⊎ Fine (block_at m) x)
   bump k l lo hi b cs h f = (
     length-set cs b (get_or cs b 0 + 1),
-    (λ x p. ⊎_elim (λ y. inl y) (λ e. inr (subst (Fine (block_at m)) (sym e) (fine k l lo hi b h f))) (at_bumped cs b x p)),
+    (λ x p. ⊎_elim (λ y. inl y) (λ e. inr (subst (Fine (block_at m)) (sym e) (fine k l lo hi b h f))) (at_retained cs b x p)),
   )
 
   level_tallies : (l : ℕ) → l < 5 → Tallies l
@@ -129,19 +130,19 @@ module _ (m : Meaning) where
       let es : List (ℕ × ℕ) = s.block.entries in
       let some : kids_of (block_at m b) ≡ kids es = ap kids_of s.here ∙ kids_suc s.block l s.made.level in
       let u = bump k (suc l) lo hi b cs h5 f in
-      let w = all_along l (level_tallies l (omega arith)) hi es (bumped b cs) (u.0 ∙ n) s.made.pays s.below in
+      let w = all_along l (level_tallies l (omega arith)) hi es (retained b cs) (u.0 ∙ n) s.made.pays s.below in
       let D : List ℕ → Type 0 = λ ds. Does m cs ds (one b) in
       ⊎_elim
       (λ (z : get_or cs b 0 ≡ 0).
-      let e : cond (eqb (get_or cs b 0) 0) (along (tallied m l) (entries_in (block_at m b)) (bumped b cs)) (bumped b cs) ≡ along (tallied m l) es (bumped b cs)
-      = ap (λ t. cond t (along (tallied m l) (entries_in (block_at m b)) (bumped b cs)) (bumped b cs)) (eq-eqb (get_or cs b 0) 0 z) ∙ ap (λ o. along (tallied m l) (entries_in o) (bumped b cs)) s.here in
+      let e : cond (eqb (get_or cs b 0) 0) (along (tallied m l) (entries_in (block_at m b)) (retained b cs)) (retained b cs) ≡ along (tallied m l) es (retained b cs)
+      = ap (λ t. cond t (along (tallied m l) (entries_in (block_at m b)) (retained b cs)) (retained b cs)) (eq-eqb (get_or cs b 0) 0 z) ∙ ap (λ o. along (tallied m l) (entries_in o) (retained b cs)) s.here in
       subst D (sym e) (
         w.0 ∙ u.0,
         (λ h owed c. w.1 h owed (λ x. omega (arith, count_first (block_at m) cs h owed b lt c z x, ap (occ x) some))),
         (λ x p. ⊎_elim (λ y. u.1 x y) (λ g. inr g) (w.2 x p)),
       ))
       (λ (a : get_or cs b 0 ≡ 0 → ⊥).
-      subst D (sym (ap (λ t. cond t (along (tallied m l) (entries_in (block_at m b)) (bumped b cs)) (bumped b cs)) (ne_eqb (get_or cs b 0) 0 a)))
+      subst D (sym (ap (λ t. cond t (along (tallied m l) (entries_in (block_at m b)) (retained b cs)) (retained b cs)) (ne_eqb (get_or cs b 0) 0 a)))
       (u.0, (λ h owed c. count_more (block_at m) cs h owed b lt c (omega arith)), u.1))
       (cases_eq (get_or cs b 0) 0)
 

@@ -1,26 +1,14 @@
 -- The places of a slot, in order.
-use Rattle.std.proofs.Common.{◌≡◌, ℕ, zero, suc, ◌+◌, ◌<◌, ◌≤◌, true, [], ◌∷◌, map, get_or, drop, Some, None, Ok, Err, Option, Result, sym, refl, ap, ◌∙◌, arith}
-use Rattle.std.proofs.lemmas.List.{drop_more, drop_all, get_or-map, length-map}
+use Rattle.std.proofs.Common.{◌≡◌, ℕ, zero, suc, ◌+◌, true, [], ◌∷◌, drop, Some, None, Ok, Err, Option, Result, sym, refl, ap, ◌∙◌, arith}
 use Rattle.std.proofs.lemmas.Bool.{and_parts}
 use Rattle.std.specs.Option.{option_or}
 use Rattle.device.specs.Meaning.{Meaning, blocks_of, current_at}
 use Rattle.page.specs.Slot as slots
 use Rattle.page.specs.Slot.{Table, every, rooted}
-use Rattle.page.specs.View.{root_of}
-use Rattle.page.specs.declared.roots.Root.{Root}
-use Rattle.page.specs.declared.roots.Slot.{Slot}
 use Rattle.model.specs.declared.refusal.Refusal.{Refusal}
 use Rattle.model.specs.Walk.{Fault, fault_of, pair_with, walk}
 use Rattle.mount.specs.Due.{passes}
 use Rattle.mount.specs.Counting.{place_walk, verdict, table_walk}
-
-pub drop_place : (s : Slot) (i : ℕ) (r : Option Root) → i < 24 → drop i (map root_of s.places) ≡ root_of (get_or s.places i r) ∷ drop (i + 1) (map root_of s.places)
-drop_place s i r h =
-    drop_more (map root_of s.places) i None (omega (arith, length-map s.places root_of, s.fits.1))
-    ∙ ap (λ p. p ∷ drop (i + 1) (map root_of s.places)) (get_or-map root_of s.places i r None (omega (arith, s.fits.1)))
-
-pub drop_places : (s : Slot) (i : ℕ) → 24 ≤ i → drop i (map root_of s.places) ≡ []
-drop_places s i h = drop_all i (map root_of s.places) (omega (arith, length-map s.places root_of, s.fits.1))
 
 rooted_drop : (n i : ℕ) (ps : Table) → every (rooted n) ps ≡ true → every (rooted n) (drop i ps) ≡ true
 rooted_drop n zero ps h = h

@@ -1,5 +1,5 @@
 -- The steps of the walk.
-use Rattle.std.proofs.Common.{◌≡◌, ℕ, zero, suc, ◌+◌, ◌-◌, ◌*◌, ◌<◌, ◌≤◌, Bool, true, false, cond, ◌&&◌, eqb, ltb, leb, List, [], ◌∷◌, length, get_or, drop, Some, None, Ok, Err, Option, sym, refl, ap, ◌∙◌, subst, ⊎_elim, arith, length-set}
+use Rattle.std.proofs.Common.{◌≡◌, ℕ, zero, suc, ◌+◌, ◌-◌, ◌*◌, ◌<◌, ◌≤◌, Bool, true, false, cond, ◌&&◌, eqb, ltb, leb, List, [], ◌∷◌, length, get_or, drop, Some, None, Ok, Err, Option, sym, refl, ap, ◌∙◌, subst, ⊎_elim, arith}
 use Rattle.std.proofs.lemmas.Bool.{and_parts, ltb-true, eqb-true, cases_eq}
 use Rattle.std.proofs.lemmas.List.{length-map}
 use Rattle.std.specs.Option.{option_or}
@@ -10,14 +10,15 @@ use Rattle.page.specs.View.{entries}
 use Rattle.page.specs.declared.page.Page.{Page}
 use Rattle.tree.specs.Layout.{next}
 use Rattle.counts.specs.Counts.{occ, parents}
+use Rattle.counts.specs.Keeping.{retained}
+use Rattle.counts.specs.Moves.{Shaped}
 use Rattle.counts.proofs.Parents.{one_same, one_other}
 use Rattle.model.specs.declared.refusal.Refusal.{Refusal}
 use Rattle.model.specs.TreeBlocks.{entries_in}
 use Rattle.model.specs.Walk.{Fault, payable, among, fault_below, fault_at}
 use Rattle.mount.specs.declared.walk.Due.{Due}
-use Rattle.mount.specs.Due.{Usable, own_fault, first_fault, passes, Loaded}
-use Rattle.mount.specs.Tally.{bumped, along, tallied, kids, Room}
-use Rattle.mount.proofs.Pages.{past}
+use Rattle.mount.specs.Due.{own_fault, first_fault, passes, Loaded}
+use Rattle.mount.specs.Tally.{along, tallied, kids, Room}
 use Rattle.mount.proofs.Blocks.{split_fault, loaded_made, few}
 use Rattle.mount.proofs.Tally.{tallies, count_first}
 
@@ -39,9 +40,9 @@ parents_le kids [] b h = omega arith
 parents_le kids (zero ∷ cs) b h = omega (arith, parents_le (λ j. kids (suc j)) cs b (λ x. h (suc x)))
 parents_le kids (suc c ∷ cs) b h = omega (arith, occ_le b (kids 0), h 0, parents_le (λ j. kids (suc j)) cs b (λ x. h (suc x)))
 
-pub count_small : (m : Meaning) (cs due : List ℕ) (b : ℕ) → length cs ≡ blocks_of m → Usable m → Room m cs due → get_or cs b 0 < 65535
-count_small m cs due b n u r =
-    omega (arith, r.owing b, r.modest b, u.few, parents_le (λ x. kids_of (block_at m x)) cs b (λ x. kids_few (block_at m x) (few m x)))
+pub count_small : (m : Meaning) (cs due : List ℕ) (b : ℕ) → Shaped m cs → Room m cs due → get_or cs b 0 < 65535
+count_small m cs due b s r =
+    omega (arith, r.owing b, r.modest b, s.sized, s.lawful.few, parents_le (λ x. kids_of (block_at m x)) cs b (λ x. kids_few (block_at m x) (few m x)))
 
 -- Answers.
 pub passes_none : (k : ℕ) (o : Option Fault) → Ok tt ≡ passes k o → o ≡ None
@@ -57,11 +58,11 @@ below_index : (n : ℕ) (c : ℕ → Content) (l hi : ℕ) (es : List (ℕ × �
 below_index n c zero hi es h = absurd (omega arith)
 below_index n c (suc l) hi es h = let e : l ≡ suc l - 1 = omega arith in ap (λ k. among (fault_at n c 7 k) hi es) e
 
-split_tally : (m : Meaning) (l b : ℕ) (cs : List ℕ) → 0 < l → tallied m l b cs ≡ cond (eqb (get_or cs b 0) 0) (along (tallied m (l - 1)) (entries_in (block_at m b)) (bumped b cs)) (bumped b cs)
+split_tally : (m : Meaning) (l b : ℕ) (cs : List ℕ) → 0 < l → tallied m l b cs ≡ cond (eqb (get_or cs b 0) 0) (along (tallied m (l - 1)) (entries_in (block_at m b)) (retained b cs)) (retained b cs)
 split_tally m zero b cs h = absurd (omega arith)
 split_tally m (suc l) b cs h =
     let e : l ≡ suc l - 1 = omega arith in
-    ap (λ k. cond (eqb (get_or cs b 0) 0) (along (tallied m k) (entries_in (block_at m b)) (bumped b cs)) (bumped b cs)) e
+    ap (λ k. cond (eqb (get_or cs b 0) 0) (along (tallied m k) (entries_in (block_at m b)) (retained b cs)) (retained b cs)) e
 
 kids_pos : (l : ℕ) (es : List (ℕ × ℕ)) → 0 < l → children l es ≡ kids es
 kids_pos zero es h = absurd (omega arith)
@@ -84,31 +85,31 @@ child_fault m d = fault_at (blocks_of m) (current_at m) 7 (d.level - 1)
 pub own_first : (m : Meaning) (d : Due) (e : Refusal) → Err e ≡ passes d.clone (own_fault m d) → Err e ≡ passes d.clone (first_fault m d)
 own_first m d e h = passes_stop d.clone (own_fault m d) _ e h ∙ sym (ap (passes d.clone) (split_fault m d))
 
--- At a block that was loaded.
-module _ (m : Meaning) (d : Due) (p : Page) (ld : Loaded m d p) where
-  entries_here : entries_in (block_at m d.block) ≡ entries p
-  entries_here = ap entries_in ld.here
+-- At a block that was loaded, over its entries es.
+module _ (m : Meaning) (d : Due) (p : Page) (es : List (ℕ × ℕ)) (ld : Loaded m d p) (same : es ≡ entries p) where
+  entries_here : entries_in (block_at m d.block) ≡ es
+  entries_here = ap entries_in ld.here ∙ sym same
 
-  kids_here : 0 < d.level → kids_of (block_at m d.block) ≡ kids (entries p)
-  kids_here h = ap kids_of ld.here ∙ kids_pos p.level (entries p) (omega (arith, (loaded_made m d p ld).level))
+  kids_here : 0 < d.level → kids_of (block_at m d.block) ≡ kids es
+  kids_here h = ap kids_of ld.here ∙ kids_pos p.level (entries p) (omega (arith, (loaded_made m d p ld).level)) ∙ ap kids (sym same)
 
-  first_below : first_fault m d ≡ fault_below (blocks_of m) (current_at m) d.level d.high (entries p)
+  first_below : first_fault m d ≡ fault_below (blocks_of m) (current_at m) d.level d.high es
   first_below =
       split_fault m d
       ∙ ap (λ o. option_or o (fault_below (blocks_of m) (current_at m) d.level d.high (entries_in (block_at m d.block)))) ld.fine
       ∙ ap (fault_below (blocks_of m) (current_at m) d.level d.high) entries_here
 
-  first_among : 0 < d.level → first_fault m d ≡ among (child_fault m d) d.high (entries p)
-  first_among up = first_below ∙ below_index (blocks_of m) (current_at m) d.level d.high (entries p) up
+  first_among : 0 < d.level → first_fault m d ≡ among (child_fault m d) d.high es
+  first_among up = first_below ∙ below_index (blocks_of m) (current_at m) d.level d.high es up
 
   pub start_room : (counting first : Bool) (cs cs' : List ℕ) → 0 < d.level → d.block < length cs → (counting ≡ true → Room m cs (d.block ∷ []))
-      → first ≡ (counting && eqb (get_or cs d.block 0) 0) → cs' ≡ cond counting (bumped d.block cs) cs → first ≡ true → Room m cs' (kids (entries p))
+      → first ≡ (counting && eqb (get_or cs d.block 0) 0) → cs' ≡ cond counting (retained d.block cs) cs → first ≡ true → Room m cs' (kids es)
   start_room counting first cs cs' up lt room ef ec t =
       let a = and_parts counting (eqb (get_or cs d.block 0) 0) (sym ef ∙ t) in
       let z = eqb-true (get_or cs d.block 0) 0 a.1 in
       let r = room a.0 in
-      let e : cs' ≡ bumped d.block cs = ec ∙ ap (λ x. cond x (bumped d.block cs) cs) a.0 in
-      subst (λ ds. Room m ds (kids (entries p))) (sym e)
+      let e : cs' ≡ retained d.block cs = ec ∙ ap (λ x. cond x (retained d.block cs) cs) a.0 in
+      subst (λ ds. Room m ds (kids es)) (sym e)
       (record {
         outside = r.outside;
         others = r.others;
@@ -116,49 +117,44 @@ module _ (m : Meaning) (d : Due) (p : Page) (ld : Loaded m d p) where
         modest = r.modest;
       })
 
-  pub child_in : (i s c : ℕ) (rest : List (ℕ × ℕ)) → 0 < d.level → drop i (entries p) ≡ (s, c) ∷ rest → c < blocks_of m
+  pub child_in : (i s c : ℕ) (rest : List (ℕ × ℕ)) → 0 < d.level → drop i es ≡ (s, c) ∷ rest → c < blocks_of m
   child_in i s c rest up e =
-      let o = ap (every (payable (blocks_of m) d.level)) (sym e) ∙ payable_drop (blocks_of m) d.level i (entries p) (loaded_made m d p ld).pays in
+      let o = ap (every (payable (blocks_of m) d.level)) (sym e) ∙ payable_drop (blocks_of m) d.level i es (ap (every (payable (blocks_of m) d.level)) same ∙ (loaded_made m d p ld).pays) in
       payable_in (blocks_of m) d.level (s, c) up (and_parts (payable (blocks_of m) d.level (s, c)) (every (payable (blocks_of m) d.level) rest) o).0
 
   -- a child's fault is the first
-  pub child_first : (i s c : ℕ) (rest : List (ℕ × ℕ)) (e : Refusal) → 0 < d.level → drop i (entries p) ≡ (s, c) ∷ rest
-      → among (child_fault m d) d.high (drop i (entries p)) ≡ among (child_fault m d) d.high (entries p)
+  pub child_first : (i s c : ℕ) (rest : List (ℕ × ℕ)) (e : Refusal) → 0 < d.level → drop i es ≡ (s, c) ∷ rest
+      → among (child_fault m d) d.high (drop i es) ≡ among (child_fault m d) d.high es
       → Err e ≡ passes d.clone (child_fault m d s (next d.high rest) c) → Err e ≡ passes d.clone (first_fault m d)
   child_first i s c rest e up q inv f =
       passes_stop d.clone (child_fault m d s (next d.high rest) c) (among (child_fault m d) d.high rest) e f
       ∙ sym (ap (passes d.clone) (first_among up ∙ sym inv ∙ ap (among (child_fault m d) d.high) q))
 
   -- no child has a fault
-  pub no_fault : (i : ℕ) → 0 < d.level → p.len ≤ i
-      → among (child_fault m d) d.high (drop i (entries p)) ≡ among (child_fault m d) d.high (entries p) → Ok tt ≡ passes d.clone (first_fault m d)
-  no_fault i up far inv = sym (ap (passes d.clone) (first_among up ∙ sym inv ∙ ap (among (child_fault m d) d.high) (past p i far)))
+  pub no_fault : (rest : List (ℕ × ℕ)) → 0 < d.level → rest ≡ [] → among (child_fault m d) d.high rest ≡ among (child_fault m d) d.high es → Ok tt ≡ passes d.clone (first_fault m d)
+  no_fault rest up end inv = sym (ap (passes d.clone) (first_among up ∙ sym inv ∙ ap (among (child_fault m d) d.high) end))
 
-  pub all_counted : (i : ℕ) (counting first : Bool) (cs cs' ds : List ℕ) → 0 < d.level → p.len ≤ i
-      → first ≡ (counting && eqb (get_or cs d.block 0) 0) → cs' ≡ cond counting (bumped d.block cs) cs
-      → cond first (along (tallied m (d.level - 1)) (drop i (entries p)) ds) ds ≡ cond first (along (tallied m (d.level - 1)) (entries p) cs') cs'
+  pub all_counted : (rest : List (ℕ × ℕ)) (counting first : Bool) (cs cs' ds : List ℕ) → 0 < d.level → rest ≡ []
+      → first ≡ (counting && eqb (get_or cs d.block 0) 0) → cs' ≡ cond counting (retained d.block cs) cs
+      → cond first (along (tallied m (d.level - 1)) rest ds) ds ≡ cond first (along (tallied m (d.level - 1)) es cs') cs'
       → ds ≡ cond counting (tallied m d.level d.block cs) cs
-  all_counted i counting first cs cs' ds up far ef ec inv =
+  all_counted rest counting first cs cs' ds up end ef ec inv =
       let T = tallied m (d.level - 1) in
-      let same : ds ≡ cond first (along T (drop i (entries p)) ds) ds = sym (ap (λ es. cond first (along T es ds) ds) (past p i far) ∙ equal first) in
+      let same : ds ≡ cond first (along T rest ds) ds = sym (ap (λ es. cond first (along T es ds) ds) end ∙ equal first) in
       same ∙ inv ∙ by counting first ef ec
     where
       equal : (t : Bool) → cond t ds ds ≡ ds
       equal true = refl
       equal false = refl
 
-      by : (counting first : Bool) → first ≡ (counting && eqb (get_or cs d.block 0) 0) → cs' ≡ cond counting (bumped d.block cs) cs
-          → cond first (along (tallied m (d.level - 1)) (entries p) cs') cs' ≡ cond counting (tallied m d.level d.block cs) cs
-      by false first ef ec = ap (λ t. cond t (along (tallied m (d.level - 1)) (entries p) cs') cs') ef ∙ ec
+      by : (counting first : Bool) → first ≡ (counting && eqb (get_or cs d.block 0) 0) → cs' ≡ cond counting (retained d.block cs) cs
+          → cond first (along (tallied m (d.level - 1)) es cs') cs' ≡ cond counting (tallied m d.level d.block cs) cs
+      by false first ef ec = ap (λ t. cond t (along (tallied m (d.level - 1)) es cs') cs') ef ∙ ec
       by true first ef ec =
-          ap (λ t. cond t (along (tallied m (d.level - 1)) (entries p) cs') cs') ef
-          ∙ ap (λ xs. cond (eqb (get_or cs d.block 0) 0) (along (tallied m (d.level - 1)) (entries p) xs) xs) ec
-          ∙ ap (λ es. cond (eqb (get_or cs d.block 0) 0) (along (tallied m (d.level - 1)) es (bumped d.block cs)) (bumped d.block cs)) (sym entries_here)
+          ap (λ t. cond t (along (tallied m (d.level - 1)) es cs') cs') ef
+          ∙ ap (λ xs. cond (eqb (get_or cs d.block 0) 0) (along (tallied m (d.level - 1)) es xs) xs) ec
+          ∙ ap (λ es. cond (eqb (get_or cs d.block 0) 0) (along (tallied m (d.level - 1)) es (retained d.block cs)) (retained d.block cs)) (sym entries_here)
           ∙ sym (split_tally m d.level d.block cs up)
-
-pub meet_length : (b : ℕ) (counting : Bool) (cs ds : List ℕ) → ds ≡ cond counting (bumped b cs) cs → length ds ≡ length cs
-meet_length b true cs ds e = ap length e ∙ length-set cs b (get_or cs b 0 + 1)
-meet_length b false cs ds e = ap length e
 
 -- the next child's reference is due
 pub next_room : (m : Meaning) (cs : List ℕ) (es rest : List (ℕ × ℕ)) (s c : ℕ) → es ≡ (s, c) ∷ rest → Room m cs (kids es) → Room m cs (c ∷ [])
@@ -174,13 +170,6 @@ pub among_step : (f : ℕ → ℕ → ℕ → Option Fault) (hi : ℕ) (es rest 
 among_step f hi es rest all s c e k inv = sym (ap (λ o. option_or o (among f hi rest)) k) ∙ sym (ap (among f hi) e) ∙ inv
 
 module _ (m : Meaning) (l s hi c : ℕ) (first : Bool) (cs ds : List ℕ) (low : l < 5) (lt : c < length cs) (n : length cs ≡ blocks_of m) (k : fault_at (blocks_of m) (current_at m) 7 l s hi c ≡ None) (e : ds ≡ cond first (tallied m l c cs) cs) where
-  pub length_step : length ds ≡ length cs
-  length_step = by first e
-    where
-      by : (t : Bool) → ds ≡ cond t (tallied m l c cs) cs → length ds ≡ length cs
-      by true e = ap length e ∙ (tallies m 7 l s hi c cs low lt n k).0
-      by false e = ap length e
-
   pub room_step : (es rest : List (ℕ × ℕ)) → es ≡ (s, c) ∷ rest → (first ≡ true → Room m cs (kids es)) → first ≡ true → Room m ds (kids rest)
   room_step es rest q room t =
       let r = room t in

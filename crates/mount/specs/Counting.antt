@@ -4,13 +4,14 @@ use Rattle.device.specs.Meaning.{Meaning, blocks_of, current_at}
 use Rattle.page.specs.Block.{block_at}
 use Rattle.page.specs.Slot.{Root, Table}
 use Rattle.counts.specs.Counts.{occ}
+use Rattle.counts.specs.Keeping.{retained}
 use Rattle.model.specs.declared.refusal.Refusal.{Refusal}
 use Rattle.model.specs.TreeBlocks.{top_level}
 use Rattle.model.specs.Walk.{Fault, least, fault_of, walk}
 use Rattle.model.specs.World.{faulty}
 use Rattle.mount.specs.declared.walk.Due.{Due}
 use Rattle.mount.specs.Due.{passes}
-use Rattle.mount.specs.Tally.{Owing, Fine, bumped, tallied}
+use Rattle.mount.specs.Tally.{Owing, Fine, tallied}
 
 -- what is due at a root of clone k
 abbrev pub root_due : ℕ → Root → Due
@@ -32,7 +33,7 @@ table_walk m k t = verdict (walk (blocks_of m) (current_at m) k t)
 -- a root is counted twice: for the working and for the committed place
 abbrev pub count_at : Meaning → Option Root → List ℕ → List ℕ
 count_at m None cs = cs
-count_at m (Some r) cs = bumped r.1 (tallied m (top_level r.0) r.1 cs)
+count_at m (Some r) cs = retained r.1 (tallied m (top_level r.0) r.1 cs)
 
 -- the counts are right for these roots, each twice
 pub record Counting (m : Meaning) (cs roots : List ℕ) : Type 0 where

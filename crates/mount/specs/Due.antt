@@ -1,6 +1,5 @@
 -- What the walk expects at a block, and what it answers there.
 use Rattle.std.specs.Prelude.{◌≡◌, ℕ, ◌≤◌, Some, None, Ok, Err, Option, Result}
-use Rattle.device.specs.declared.DeviceFault.{DeviceFault}
 use Rattle.device.specs.Numbers.{fault_mark}
 use Rattle.device.specs.Meaning.{Meaning, blocks_of, current_at}
 use Rattle.page.specs.Block.{block_at}
@@ -36,11 +35,6 @@ passes k (Some f) = Err (faulty (k, f))
 -- the refusal that a device's fault is, with its block and clone
 abbrev pub refusal_of : Met → Refusal
 refusal_of f = Damaged f.block f.clone (fault_mark f.fault)
-
--- a device's answer, with the block and clone
-abbrev pub met_at : Result Unit DeviceFault → ℕ → ℕ → Result Unit Met
-met_at (Ok u) k b = Ok tt
-met_at (Err f) k b = Err (record { fault = f; clone = k; block = b })
 
 -- a page that was read where it is due
 pub record Loaded (m : Meaning) (d : Due) (p : Page) : Type 0 where

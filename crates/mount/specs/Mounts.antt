@@ -1,5 +1,5 @@
 -- What mount promises.
-use Rattle.std.specs.Prelude.{◌≡◌, ℕ, suc, ◌%◌, true, ◌⊎◌, List, length, Ok, Err, Option}
+use Rattle.std.specs.Prelude.{◌≡◌, ℕ, suc, ◌%◌, true, ◌⊎◌, List, length, replicate, Ok, Err, Option}
 use Rattle.device.specs.Meaning.{Meaning, Lawful, words, written, blocks_of, current_at}
 use Rattle.page.specs.Block.{block_at}
 use Rattle.page.specs.Slot.{Table, slot_words, SlotFits}
@@ -36,6 +36,11 @@ pub record Kept (m : Meaning) (x : ℕ × Table) : Type 0 where
 -- mount accepts exactly the images that keep the layout
 abbrev pub MountExact : Type 0
 MountExact = (m : Meaning) (x : ℕ × Table) → Lawful m → (found m ≡ Ok x → Kept m x) × (Kept m x → found m ≡ Ok x)
+
+-- a device that a volume fits on, with counts of no references
+pub record Blank (m : Meaning) (cs : List ℕ) : Type 0 where
+  pub fit : sizes (blocks_of m) m.width ≡ true
+  pub none : cs ≡ replicate (blocks_of m) 0
 
 -- a volume that mount made, with this slot and these counts
 pub record Accepted (m : Meaning) (x : ℕ × Table) (cs : List ℕ) : Type 0 where

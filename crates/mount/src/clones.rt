@@ -1,15 +1,14 @@
 // The walk of all clones.
-ghost use Rattle.std.specs.Prelude.{◌≡◌, ℕ, ◌<◌, ◌≤◌, true, [], map, Some, vec_len, OnOk};
-ghost use Rattle.device.specs.Meaning.{Meaning, blocks_of};
+ghost use Rattle.std.specs.Prelude.{◌≡◌, ℕ, ◌≤◌, true, [], map, OnOk};
+ghost use Rattle.device.specs.Meaning.{blocks_of};
 ghost use Rattle.page.specs.Slot.{every, rooted};
 ghost use Rattle.page.specs.View.{root_of};
 ghost use Rattle.model.specs.Walk.{least};
 ghost use Rattle.model.specs.Reach.{roots_of};
-ghost use Rattle.mount.specs.Due.{Usable};
 ghost use Rattle.mount.specs.Counting.{root_due, place_walk, table_walk, count_at, Counting, Ready};
 
-use super::walk::{Due, add, walk};
-use counts::Counts;
+use super::walk::{Due, walk};
+use counts::Store;
 use device::Device;
 use model::Refusal;
 use page::roots::{Root, Slot};
@@ -37,68 +36,36 @@ fn root_due(root: Root, clone: u32) -> Due
     }
 }
 
-// Walks a clone's tree, and counts its root for the working and for the committed place.
+// Walks the tree of a clone, if it is there, and counts its root for the working and for the committed place.
 fn visit<D: Device>(
-    device: &mut D,
-    counts: &mut Counts,
-    root: Root,
-    clone: u32,
-) -> Result<(), Refusal>
-    requires sound { D.Device.sound device.old }
-    requires usable { Usable (D.Device.meaning device.old) }
-    requires height { (1 ≤ root.height) × (root.height ≤ 5) }
-    requires within { root.block < blocks_of (D.Device.meaning device.old) }
-    requires ready { Ready (D.Device.meaning device.old) counts.old.of.items }
-    ensures stays { D.Device.sound device.new }
-    ensures same { D.Device.meaning device.new ≡ D.Device.meaning device.old }
-    ensures answer { result ≡ place_walk (D.Device.meaning device.old) clone (root_of (Some root)) }
-    ensures counts { OnOk result (counts.new.of.items ≡ count_at (D.Device.meaning device.old) (root_of (Some root)) counts.old.of.items) }
-{
-    let due = root_due(root, clone);
-    walk(device, counts, due, true)?;
-    let _ = add(counts, root.block);
-    Ok(())
-}
-
-// Walks the tree of a clone, if it is there.
-fn visit_place<D: Device>(
-    device: &mut D,
-    counts: &mut Counts,
+    store: &mut Store<D>,
     place: Option<Root>,
     clone: u32,
 ) -> Result<(), Refusal>
-    requires sound { D.Device.sound device.old }
-    requires usable { Usable (D.Device.meaning device.old) }
-    requires rooted { rooted (blocks_of (D.Device.meaning device.old)) (root_of place) ≡ true }
-    requires ready { Ready (D.Device.meaning device.old) counts.old.of.items }
-    ensures stays { D.Device.sound device.new }
-    ensures same { D.Device.meaning device.new ≡ D.Device.meaning device.old }
-    ensures answer { result ≡ place_walk (D.Device.meaning device.old) clone (root_of place) }
-    ensures counts { OnOk result (counts.new.of.items ≡ count_at (D.Device.meaning device.old) (root_of place) counts.old.of.items) }
+    requires rooted { rooted (blocks_of store.old.0) (root_of place) ≡ true }
+    requires ready { Ready store.old.0 store.old.1 }
+    ensures kept { store.new.0 ≡ store.old.0 }
+    ensures answer { result ≡ place_walk store.old.0 clone (root_of place) }
+    ensures counts { OnOk result (store.new.1 ≡ count_at store.old.0 (root_of place) store.old.1) }
 {
-    match place {
-        None => Ok(()),
-        Some(root) => visit(device, counts, root, clone),
-    }
+    let Some(root) = place else {
+        return Ok(());
+    };
+    walk(store, root_due(root, clone), true)?;
+    store.retain(root.block);
+    Ok(())
 }
 
 // Walks the trees of all clones, ascending, and counts their references.
-pub fn walk_clones<D: Device>(
-    device: &mut D,
-    counts: &mut Counts,
-    slot: &Slot,
-) -> Result<(), Refusal>
-    requires sound { D.Device.sound device.old }
-    requires usable { Usable (D.Device.meaning device.old) }
-    requires rooted { every (rooted (blocks_of (D.Device.meaning device.old))) (map root_of slot.now.places) ≡ true }
-    requires none { Counting (D.Device.meaning device.old) counts.old.of.items [] }
-    ensures stays { D.Device.sound device.new }
-    ensures same { D.Device.meaning device.new ≡ D.Device.meaning device.old }
-    ensures answer { result ≡ table_walk (D.Device.meaning device.old) 0 (map root_of slot.now.places) }
-    ensures counts { OnOk result (Counting (D.Device.meaning device.old) counts.new.of.items (roots_of (map root_of slot.now.places))) }
+pub fn walk_clones<D: Device>(store: &mut Store<D>, slot: &Slot) -> Result<(), Refusal>
+    requires rooted { every (rooted (blocks_of store.old.0)) (map root_of slot.now.places) ≡ true }
+    requires none { Counting store.old.0 store.old.1 [] }
+    ensures kept { store.new.0 ≡ store.old.0 }
+    ensures answer { result ≡ table_walk store.old.0 0 (map root_of slot.now.places) }
+    ensures counts { OnOk result (Counting store.old.0 store.new.1 (roots_of (map root_of slot.now.places))) }
 {
-    for i in 0..24 {
-        visit_place(device, counts, slot.places[i], i as u32)?;
+    for (clone, place) in slot.places.iter().enumerate() {
+        visit(store, *place, clone as u32)?;
     }
     Ok(())
 }

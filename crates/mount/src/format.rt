@@ -14,12 +14,10 @@ use page::roots::Slot;
 
 // Writes a slot of no clones.
 fn write_empty<D: Device>(device: &mut D, generation: u32)
-    requires sound { D.Device.sound device.old }
     requires usable { Usable (D.Device.meaning device.old) }
     requires left { 1 ≤ (D.Device.meaning device.old).left }
     requires low { generation ≤ 1 }
-    ensures stays { D.Device.sound device.new }
-    ensures after { D.Device.meaning device.new ≡ written (D.Device.meaning device.old) generation (slot_words (D.Device.meaning device.old).width generation blank) }
+    ensures { D.Device.meaning device.new ≡ written (D.Device.meaning device.old) generation (slot_words (D.Device.meaning device.old).width generation blank) }
 {
     let slot = Slot {
         generation,
@@ -29,14 +27,10 @@ fn write_empty<D: Device>(device: &mut D, generation: u32)
 }
 
 // Makes an empty volume of generation 1 on a device, or gives the device back with the reason why it cannot.
-pub fn format_device<D: Device>(device: D) -> Result<D, (D, Refusal)>
-    requires sound { D.Device.sound device }
-    ensures sound { MatchResult result (λ d. D.Device.sound d) (λ e. D.Device.sound e.0) }
-    ensures answer { MatchResult result (λ d. Made (D.Device.meaning device) (D.Device.meaning d)) (λ e. Unmade (D.Device.meaning device) (D.Device.meaning e.0) e.1) }
+pub fn format_device<D: Device>(mut device: D) -> Result<D, (D, Refusal)>
+    ensures { MatchResult result (λ d. Made (D.Device.meaning device) (D.Device.meaning d)) (λ e. Unmade (D.Device.meaning device) (D.Device.meaning e.0) e.1) }
 {
-    let mut device = device;
-    let blocks = device.blocks();
-    if !is_fitting(blocks, device.width()) {
+    if !is_fitting(device.blocks(), device.width()) {
         return Err((device, Refusal::Shape));
     }
     let (left, layer) = device.left();

@@ -1,11 +1,12 @@
 // Mounting: which images are a volume, and the counts of references that a mounted one has.
 #![tactic(auto)]
 
-ghost use Rattle.std.specs.Prelude.{◌≡◌, ℕ, ◌<◌, ◌≤◌, true, ◌&&◌, replicate, IfSome, vec_len, MatchResult};
-ghost use Rattle.device.specs.Meaning.{Meaning, blocks_of};
+ghost use Rattle.std.specs.Prelude.{◌≡◌, Ok, Err, MatchResult};
 ghost use Rattle.page.specs.View.{slot_of};
-ghost use Rattle.model.specs.World.{sizes};
-ghost use Rattle.mount.specs.Mounts.{MountExact, Accepted, Refused};
+ghost use Rattle.model.specs.Reach.{roots_of};
+ghost use Rattle.model.specs.World.{sizes, found};
+ghost use Rattle.mount.specs.Counting.{Counting};
+ghost use Rattle.mount.specs.Mounts.{MountExact, Accepted, Refused, Blank};
 
 mod clones;
 mod format;
@@ -23,11 +24,9 @@ pub use slot_choice::write_slot;
 use std::alloc::Global;
 
 // Mount accepts exactly the images that keep the layout.
-pub fn mount_is_exact() -> u8
+pub fn mount_is_exact()
     ensures { MountExact }
-{
-    0
-}
+{}
 
 // A device that holds a volume, its counts of references, and the slot that is used.
 pub struct Mounted<D: Device> {
@@ -39,51 +38,46 @@ pub struct Mounted<D: Device> {
 fn is_fitting(blocks: u32, width: u32) -> bool
     ensures { result ≡ sizes blocks width }
 {
-    (16 <= blocks && blocks <= 4096) && (32 <= width && width <= 40)
+    (16..=4096).contains(&blocks) && (32..=40).contains(&width)
 }
 
-// Counts of no references.
-fn no_counts(heap: Global, blocks: u32) -> Option<Counts>
-    ensures { IfSome result (λ c. c.of.items ≡ replicate blocks 0) }
+// Counts of no references, for a device that a volume fits on.
+fn no_counts<D: Device>(heap: Global, device: &D) -> Result<Counts, Refusal>
+    ensures { MatchResult result (λ c. Blank (D.Device.meaning device.now) c.of.items) (λ e. Refused (D.Device.meaning device.now) e) }
 {
-    match vec![in heap; 0u16; blocks as usize] {
-        Ok(of) => Some(Counts { of }),
-        Err(_) => None,
+    let blocks = device.blocks();
+    if !is_fitting(blocks, device.width()) {
+        return Err(Refusal::Shape);
     }
+    let of = vec![in heap; 0u16; blocks as usize].map_err(|_| Refusal::NoMemory)?;
+    Ok(Counts { of })
 }
 
-// Lets counts go.
-fn discard(counts: Counts) {
-    let Counts { of } = counts;
-    drop(of);
+// Finds the slot that is used, walks the trees of its clones, and counts their references.
+fn count_clones<D: Device>(store: &mut Store<D>) -> Result<Slot, Refusal>
+    requires { Blank store.old.0 store.old.1 }
+    ensures kept { store.new.0 ≡ store.old.0 }
+    ensures answer { MatchResult result (λ s. (found store.old.0 ≡ Ok (slot_of s)) × Counting store.old.0 store.new.1 (roots_of (slot_of s).1)) (λ e. found store.old.0 ≡ Err e) }
+{
+    let slot = read_table(store).ok_or(Refusal::NoVolume)?;
+    walk_clones(store, &slot)?;
+    Ok(slot)
 }
 
 // Mounts the volume that a device holds, or gives the device back with the reason why it holds none.
 pub fn mount_store<D: Device>(heap: Global, device: D) -> Result<Mounted<D>, (D, Refusal)>
-    requires sound { D.Device.sound device }
-    ensures sound { MatchResult result (λ v. D.Device.sound v.store.device) (λ e. D.Device.sound e.0) }
-    ensures kept { MatchResult result (λ v. D.Device.meaning v.store.device ≡ D.Device.meaning device) (λ e. D.Device.meaning e.0 ≡ D.Device.meaning device) }
-    ensures answer { MatchResult result (λ v. Accepted (D.Device.meaning device) (slot_of v.slot) v.store.counts.of.items) (λ e. Refused (D.Device.meaning device) e.1) }
+    ensures kept { MatchResult result (λ v. v.store.0 ≡ D.Device.meaning device) (λ e. D.Device.meaning e.0 ≡ D.Device.meaning device) }
+    ensures answer { MatchResult result (λ v. Accepted (D.Device.meaning device) (slot_of v.slot) v.store.1) (λ e. Refused (D.Device.meaning device) e.1) }
 {
-    let mut device = device;
-    let blocks = device.blocks();
-    if !is_fitting(blocks, device.width()) {
-        return Err((device, Refusal::Shape));
-    }
-    let Some(mut counts) = no_counts(heap, blocks) else {
-        return Err((device, Refusal::NoMemory));
+    let counts = match no_counts(heap, &device) {
+        Ok(counts) => counts,
+        Err(refusal) => return Err((device, refusal)),
     };
-    let Some(slot) = read_table(&mut device) else {
-        discard(counts);
-        return Err((device, Refusal::NoVolume));
-    };
-    match walk_clones(&mut device, &mut counts, &slot) {
-        Ok(()) => Ok(Mounted {
-            store: Store { device, counts },
-            slot,
-        }),
+    let mut store = Store::new(device, counts);
+    match count_clones(&mut store) {
+        Ok(slot) => Ok(Mounted { store, slot }),
         Err(refusal) => {
-            discard(counts);
+            let (device, _) = store.into_parts();
             Err((device, refusal))
         }
     }

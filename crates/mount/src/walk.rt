@@ -1,17 +1,18 @@
 // The walk of a tree: the first block that is damaged or off the layout, and the references counted on the way.
-ghost use Rattle.std.specs.Prelude.{◌≡◌, ℕ, ◌+◌, ◌-◌, ◌<◌, ◌≤◌, true, ◌&&◌, [], ◌∷◌, length, drop, if◌then◌else◌, Ok, Err, vec_len, MatchResult, OnOk, ◌==◌, slice_index};
-ghost use Rattle.device.specs.Meaning.{Meaning, blocks_of};
+ghost use Rattle.std.specs.Prelude.{◌≡◌, ℕ, ◌+◌, ◌-◌, ◌<◌, ◌≤◌, true, ◌&&◌, ◌==◌, [], ◌∷◌, length, drop, if◌then◌else◌, slice_index, Err, MatchResult, OnOk};
+ghost use Rattle.device.specs.Meaning.{blocks_of};
 ghost use Rattle.page.specs.Slot.{every};
 ghost use Rattle.page.specs.View.{view, entries};
 ghost use Rattle.tree.specs.Layout.{next};
+ghost use Rattle.counts.specs.Keeping.{retained};
+ghost use Rattle.counts.specs.Moves.{Shaped};
 ghost use Rattle.model.specs.Walk.{ascending, starts, payable, well_made};
-ghost use Rattle.mount.specs.Due.{Usable, own_fault, first_fault, passes, refusal_of, met_at, Loaded};
-ghost use Rattle.mount.specs.Tally.{Room, bumped, tallied};
+ghost use Rattle.mount.specs.Due.{own_fault, first_fault, passes, refusal_of, Loaded};
+ghost use Rattle.mount.specs.Tally.{Room, tallied};
 
-use counts::Counts;
+use counts::Store;
 use device::{Device, DeviceFault};
 use model::Refusal;
-use page::codec::decode_page;
 use page::page::Page;
 
 // A device's fault, and the clone and block that were read.
@@ -34,19 +35,6 @@ impl From<Met> for Refusal {
     }
 }
 
-fn place(answer: Result<(), DeviceFault>, clone: u32, block: u32) -> Result<(), Met>
-    ensures { result ≡ met_at answer clone block }
-{
-    match answer {
-        Ok(()) => Ok(()),
-        Err(fault) => Err(Met {
-            fault,
-            clone,
-            block,
-        }),
-    }
-}
-
 // What is due at a block of a clone's tree: its level, its bounds, and how many entries it has at least.
 #[derive(Clone, Copy)]
 pub struct Due {
@@ -60,25 +48,18 @@ pub struct Due {
 
 // The upper bound of what stands at an entry: the next separator, or the bound of the block.
 fn upper(page: &Page, i: usize, high: u32) -> u32
-    requires { i < page.now.len }
+    requires { i < length page.now.entries.items }
     ensures { result ≡ next high (drop (i + 1) (entries page.now)) }
 {
-    if i + 1 < page.len {
-        page.items[i + 1].speed
-    } else {
-        high
-    }
+    page.entries.get(i + 1).map_or(high, |next| next.speed)
 }
 
 fn is_ascending(page: &Page, high: u32) -> bool
     ensures { result ≡ ascending high (entries page.now) }
 {
-    for i in 0..page.len {
-        if page.items[i].speed >= upper(page, i, high) {
-            return false;
-        }
-    }
-    true
+    let entries = page.entries.as_slice();
+    entries.is_sorted_by(|e, next| e.speed < next.speed)
+        && entries.last().is_none_or(|last| last.speed < high)
 }
 
 fn is_payable(level: u32, speed: u32, value: u32, blocks: u32) -> bool
@@ -94,26 +75,16 @@ fn is_payable(level: u32, speed: u32, value: u32, blocks: u32) -> bool
 fn are_payable(page: &Page, level: u32, blocks: u32) -> bool
     ensures { result ≡ every (payable blocks level) (entries page.now) }
 {
-    for i in 0..page.len {
-        let e = page.items[i];
-        if !is_payable(level, e.speed, e.value, blocks) {
-            return false;
-        }
-    }
-    true
+    page.entries.iter().all(|e| is_payable(level, e.speed, e.value, blocks))
 }
 
 fn starts_at(page: &Page, level: u32, low: u32) -> bool
     ensures { result ≡ starts level low (entries page.now) }
 {
-    if page.len == 0 {
-        return level == 0;
-    }
-    let first = page.items[0].speed;
-    if level == 0 {
-        low <= first
-    } else {
-        low == first
+    match page.entries.first() {
+        None => level == 0,
+        Some(first) if level == 0 => low <= first.speed,
+        Some(first) => low == first.speed,
     }
 }
 
@@ -121,116 +92,62 @@ fn starts_at(page: &Page, level: u32, low: u32) -> bool
 fn is_well_made(page: &Page, due: Due, blocks: u32) -> bool
     ensures { result ≡ well_made blocks due.least due.level due.low due.high (view page.now) }
 {
-    if page.level != due.level {
-        return false;
-    }
-    if !starts_at(page, due.level, due.low) {
-        return false;
-    }
-    if !is_ascending(page, due.high) {
-        return false;
-    }
-    if page.len < due.least {
-        return false;
-    }
-    are_payable(page, due.level, blocks)
+    page.level == due.level
+        && starts_at(page, due.level, due.low)
+        && is_ascending(page, due.high)
+        && due.least <= page.entries.len()
+        && are_payable(page, due.level, blocks)
 }
 
-// The page of a block, if it keeps the layout where it is due; read by a buffer as wide as the block.
-fn load_by<D: Device>(device: &mut D, due: Due, buffer: &mut [u32]) -> Result<Page, Refusal>
-    requires sound { D.Device.sound device.old }
-    requires usable { Usable (D.Device.meaning device.old) }
-    requires within { due.block < blocks_of (D.Device.meaning device.old) }
-    requires fits { length buffer.old ≡ (D.Device.meaning device.old).width }
-    ensures stays { D.Device.sound device.new }
-    ensures same { D.Device.meaning device.new ≡ D.Device.meaning device.old }
-    ensures answer { MatchResult result (λ p. Loaded (D.Device.meaning device.old) due p) (λ e. Err e ≡ passes due.clone (own_fault (D.Device.meaning device.old) due)) }
+// The page of a block, if it keeps the layout where it is due.
+fn load<D: Device>(store: &mut Store<D>, due: Due) -> Result<Page, Refusal>
+    requires { due.block < blocks_of store.old.0 }
+    ensures kept { store.new ≡ store.old }
+    ensures shape { Shaped store.old.0 store.old.1 }
+    ensures answer { MatchResult result (λ p. Loaded store.old.0 due p) (λ e. Err e ≡ passes due.clone (own_fault store.old.0 due)) }
 {
-    place(device.read(due.block, buffer), due.clone, due.block)?;
-    let malformed = Refusal::Malformed {
-        block: due.block,
-        clone: due.clone,
-    };
-    match decode_page(buffer) {
-        None => Err(malformed),
-        Some(page) => {
-            if is_well_made(&page, due, device.blocks()) {
-                Ok(page)
-            } else {
-                Err(malformed)
-            }
-        }
-    }
-}
-
-fn load<D: Device>(device: &mut D, due: Due) -> Result<Page, Refusal>
-    requires sound { D.Device.sound device.old }
-    requires usable { Usable (D.Device.meaning device.old) }
-    requires within { due.block < blocks_of (D.Device.meaning device.old) }
-    ensures stays { D.Device.sound device.new }
-    ensures same { D.Device.meaning device.new ≡ D.Device.meaning device.old }
-    ensures answer { MatchResult result (λ p. Loaded (D.Device.meaning device.old) due p) (λ e. Err e ≡ passes due.clone (own_fault (D.Device.meaning device.old) due)) }
-{
-    let mut words = [0u32; 40];
-    let width = device.width() as usize;
-    load_by(device, due, &mut words[0..width])
-}
-
-// One reference more to a block; whether it is the first.
-pub fn add(counts: &mut Counts, block: u32) -> bool
-    requires within { block < length counts.old.of.items }
-    requires small { slice_index counts.old.of.items block < 65535 }
-    ensures first { result ≡ (slice_index counts.old.of.items block == 0) }
-    ensures counts { counts.new.of.items ≡ bumped block counts.old.of.items }
-{
-    let count = counts.get(block);
-    counts.set(block, count + 1);
-    count == 0
+    let Due { clone, block, .. } = due;
+    let blocks = store.blocks();
+    let page: Option<Page> = store.read(block).map_err(|fault| Met { fault, clone, block })?;
+    page.filter(|page| is_well_made(page, due, blocks))
+        .ok_or(Refusal::Malformed { block, clone })
 }
 
 // A block is met, by a reference that counts or by one that does not; whether it counts and is the first.
-fn meet(counts: &mut Counts, block: u32, counting: bool) -> bool
-    requires within { block < length counts.old.of.items }
-    requires small { counting ≡ true → slice_index counts.old.of.items block < 65535 }
-    ensures first { result ≡ (counting && slice_index counts.old.of.items block == 0) }
-    ensures counts { counts.new.of.items ≡ (if counting then bumped block counts.old.of.items else counts.old.of.items) }
+fn meet<D: Device>(store: &mut Store<D>, block: u32, counting: bool) -> bool
+    requires within { block < blocks_of store.old.0 }
+    requires small { counting ≡ true → slice_index store.old.1 block < 65535 }
+    ensures first { result ≡ (counting && slice_index store.old.1 block == 0) }
+    ensures kept { store.new.0 ≡ store.old.0 }
+    ensures counts { store.new.1 ≡ (if counting then retained block store.old.1 else store.old.1) }
 {
-    if counting { add(counts, block) } else { false }
+    counting && store.retain(block)
 }
 
 // Walks the tree at a block: each block before its children, left to right.
 // If the reference by which the walk came counts, it is counted, and so are those of blocks met for the first time.
-pub fn walk<D: Device>(
-    device: &mut D,
-    counts: &mut Counts,
-    due: Due,
-    counting: bool,
-) -> Result<(), Refusal>
-    requires sound { D.Device.sound device.old }
-    requires usable { Usable (D.Device.meaning device.old) }
-    requires within { due.block < blocks_of (D.Device.meaning device.old) }
+pub fn walk<D: Device>(store: &mut Store<D>, due: Due, counting: bool) -> Result<(), Refusal>
+    requires within { due.block < blocks_of store.old.0 }
     requires low { due.level < 5 }
-    requires long { length counts.old.of.items ≡ blocks_of (D.Device.meaning device.old) }
-    requires room { counting ≡ true → Room (D.Device.meaning device.old) counts.old.of.items (due.block ∷ []) }
-    ensures stays { D.Device.sound device.new }
-    ensures same { D.Device.meaning device.new ≡ D.Device.meaning device.old }
-    ensures answer { result ≡ passes due.clone (first_fault (D.Device.meaning device.old) due) }
-    ensures counts { OnOk result (counts.new.of.items ≡ (if counting then tallied (D.Device.meaning device.old) due.level due.block counts.old.of.items else counts.old.of.items)) }
+    requires room { counting ≡ true → Room store.old.0 store.old.1 (due.block ∷ []) }
+    ensures kept { store.new.0 ≡ store.old.0 }
+    ensures shape { Shaped store.old.0 store.old.1 }
+    ensures answer { result ≡ passes due.clone (first_fault store.old.0 due) }
+    ensures counts { OnOk result (store.new.1 ≡ (if counting then tallied store.old.0 due.level due.block store.old.1 else store.old.1)) }
 {
-    let page = load(device, due)?;
-    let first = meet(counts, due.block, counting);
+    let page = load(store, due)?;
+    let first = meet(store, due.block, counting);
     if due.level > 0 {
-        for i in 0..page.len {
-            let e = page.items[i];
+        for (i, entry) in page.entries.iter().enumerate() {
             let child = Due {
                 clone: due.clone,
-                block: e.value,
+                block: entry.value,
                 level: due.level - 1,
-                low: e.speed,
+                low: entry.speed,
                 high: upper(&page, i, due.high),
                 least: 7,
             };
-            walk(device, counts, child, first)?;
+            walk(store, child, first)?;
         }
     }
     Ok(())

@@ -14,13 +14,9 @@ use Rattle.mount.proofs.format.format_device.Goals as goal
 pub returns : goal.returns
 returns g c =
     let m : Meaning = g.D.Device.meaning c.args.device in
-    let fit : sizes (blocks_of m) m.width ≡ true = fits_from m c.blocks-blocks.result c.width.result c.blocks-blocks.ensures c.width.ensures c.if-not-is_fitting.ensures in
+    let fit : sizes (blocks_of m) m.width ≡ true = fits_from m c.blocks-2.result c.width.result c.blocks-2.ensures c.width.ensures c.if-not-is_fitting.ensures in
     let some : 2 ≤ m.left = omega (arith, ap (λ (p : ℕ × LayerMark). p.0) c.left-left.ensures, c.if-left-lt2.false) in
     let m₁ : Meaning = g.D.Device.meaning c.write_empty.new.device in
-    let a : m₁ ≡ written m 0 (slot_words m.width 0 blank) = c.write_empty.ensures.after in
-    let b = c.write_empty-2.ensures.after ∙ ap (λ k. written k 1 (slot_words k.width 1 blank)) a in
+    let b = c.write_empty-2.ensures ∙ ap (λ k. written k 1 (slot_words k.width 1 blank)) c.write_empty.ensures in
     let after : g.D.Device.meaning c.flush.new.self ≡ replay (formatting m.width) m = c.flush.ensures.after ∙ ap flushed b in
-    record {
-      sound = c.flush.ensures.stays;
-      answer = record { able = able m fit some; after = after; formatted = subst Formatted (sym after) (formats m fit) };
-    }
+    record { able = able m fit some; after = after; formatted = subst Formatted (sym after) (formats m fit) }

@@ -1,26 +1,25 @@
-use Rattle.std.proofs.Common.{◌+◌, ◌&&◌, get_or, drop, sym, ap, ◌∙◌, arith}
-use Rattle.std.proofs.lemmas.Bool.{lt-ltb, le-ltb}
-use Rattle.page.specs.View.{entries}
-use Rattle.tree.specs.Layout.{next}
+use Rattle.std.proofs.Common.{◌&&◌, Bool, ltb, map, sym, ap, ◌∙◌, rules, tests}
+use Rattle.std.proofs.lemmas.Fn.{always_returns_same}
+use Rattle.page.specs.View.{pair}
+use Rattle.page.specs.declared.page.Entry.{Entry}
 use Rattle.model.specs.Walk.{ascending}
-use Rattle.mount.proofs.Pages.{ascending_step, past}
+use Rattle.mount.proofs.Pages.{ascending_if, last_below, last_below_by}
 use Rattle.mount.proofs.walk.is_ascending.Goals as goal
 
-pub loop-i-preserved : goal.loop-i-preserved
-loop-i-preserved c =
-    let p = c.args.page.now in
-    let i = c.loop-i.i in
-    let r = c.index-page-i.result in
-    c.loop-i.invariant ∙ ascending_step p c.args.high i r c.loop-i-test.true
-    ∙ ap (λ t. t && ascending c.args.high (drop (i + 1) (entries p))) (lt-ltb (get_or p.items i r).speed (next c.args.high (drop (i + 1) (entries p))) (omega (arith, c.upper.ensures, c.if-page-i.false)))
+pub returns-then-is_sorted_by : goal.returns-then-is_sorted_by
+returns-then-is_sorted_by c =
+    let xs = c.as_slice-entries.result.now in
+    let hi = c.args.high in
+    last_below_by hi xs c.last.result c.is_none_or.result c.last.ensures.item (search rules)
+    ∙ sym (ascending_if hi xs c.is_sorted_by.result (c.is_sorted_by.ensures.cases (λ (x y : Entry). ltb x.speed y.speed) (always_returns_same _ _ _ (λ a r f k. search (rules, tests))))
+    ∙ ap (λ (t : Bool). t && last_below hi xs) c.if-is_sorted_by.true)
+    ∙ ap (λ es. ascending hi (map pair es)) c.as_slice-entries.ensures.value
 
-pub returns-then-page-i : goal.returns-then-page-i
-returns-then-page-i c =
-    let p = c.args.page.now in
-    let i = c.loop-i.i in
-    let r = c.index-page-i.result in
-    sym (c.loop-i.invariant ∙ ascending_step p c.args.high i r c.loop-i-test.true
-    ∙ ap (λ t. t && ascending c.args.high (drop (i + 1) (entries p))) (le-ltb (get_or p.items i r).speed (next c.args.high (drop (i + 1) (entries p))) (omega (arith, c.upper.ensures, c.if-page-i.true))))
-
-pub returns : goal.returns
-returns c = sym (c.loop-i.invariant ∙ ap (ascending c.args.high) (past c.args.page.now c.loop-i.i c.loop-i-test.false))
+pub returns-else-is_sorted_by : goal.returns-else-is_sorted_by
+returns-else-is_sorted_by c =
+    let xs = c.as_slice-entries.result.now in
+    let hi = c.args.high in
+    c.if-is_sorted_by.false
+    ∙ sym (ascending_if hi xs c.is_sorted_by.result (c.is_sorted_by.ensures.cases (λ (x y : Entry). ltb x.speed y.speed) (always_returns_same _ _ _ (λ a r f k. search (rules, tests))))
+    ∙ ap (λ (t : Bool). t && last_below hi xs) c.if-is_sorted_by.false)
+    ∙ ap (λ es. ascending hi (map pair es)) c.as_slice-entries.ensures.value

@@ -1,7 +1,0 @@
-use Rattle.std.proofs.Common.{◌≡◌, drop}
-use Rattle.page.specs.View.{entries}
-use Rattle.model.specs.Walk.{ascending}
-use Rattle.mount.proofs.walk.is_ascending.Given as goal
-
-abbrev pub invariant-loop-i : goal.invariant-loop-i
-invariant-loop-i l = ascending l.high (entries l.page) ≡ ascending l.high (drop l.i (entries l.page))
