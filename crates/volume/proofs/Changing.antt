@@ -1,5 +1,5 @@
 -- A changed tree takes its place: the call's effect, and a sound volume again.
-use Rattle.std.proofs.Common.{◌≡◌, ℕ, zero, suc, ◌+◌, ◌<◌, ◌≤◌, true, T, List, [], ◌∷◌, length, get_or, set, Some, None, Option, sym, refl, ap, ◌∙◌, subst, ap₂, arith, length-set}
+use Rattle.std.proofs.Common.{◌≡◌, ℕ, zero, suc, ◌+◌, ◌<◌, ◌≤◌, true, T, List, [], ◌∷◌, length, get_or, set, ltb, Some, None, Option, sym, refl, ap, ◌∙◌, subst, ap₂, arith, length-set}
 use Rattle.device.specs.Meaning.{Content, Meaning, blocks_of, current_at}
 use Rattle.device.specs.Cuts.{Op, Op.write, Op.flush, replay}
 use Rattle.device.proofs.Choices.{blocks_replay, width_replay}
@@ -9,9 +9,10 @@ use Rattle.counts.specs.Counts.{one, occ, Counted, free_blocks}
 use Rattle.page.specs.Io.{Wide}
 use Rattle.counts.proofs.Opens.{recount}
 use Rattle.counts.proofs.Steps.{alive_is_reached}
-use Rattle.model.specs.Plain.{place}
+use Rattle.model.specs.declared.refusal.Refusal.TheVariants.{Short, Worn}
+use Rattle.model.specs.Plain.{first, place}
 use Rattle.model.specs.TreeBlocks.{Tree, Change, Change.begin, Change.puts, Change.takes, changed_on, new_blocks, root_of, tree_at, elem, Each, Good, AllGood, Stored}
-use Rattle.model.specs.Model.{used, free, source, tree_of, new_tree}
+use Rattle.model.specs.Model.{used, free, needs, source, tree_of, new_tree}
 use Rattle.model.specs.World.{Tables, Mode.mounted, placed, model_of, shape, trees, FreeWrite, Changed, sizes, targets}
 use Rattle.model.specs.Reach.{rootings, Standing}
 use Rattle.model.proofs.TreeLaws.{elem_left, elem_right}
@@ -20,7 +21,7 @@ use Rattle.model.proofs.Grants.{sizes_parts}
 use Rattle.model.proofs.Histories.{keeps_free}
 use Rattle.model.proofs.Reach.{use_is_reach, free_by_counts}
 use Rattle.edit.specs.Edited.{Counting, Editable, WritesFree, given_up, Edited}
-use Rattle.volume.specs.Kept.{Kept}
+use Rattle.volume.specs.Kept.{Kept, lacking}
 use Rattle.volume.proofs.Places.{root_in, others, roots_split, roots_placed, few_rootings}
 
 pub root_block : (c : ℕ → Content) (r : Root) → (tree_at c r).1.0 ≡ r.1
@@ -30,6 +31,17 @@ root_block c r = refl
 module _ (t : Tables) (m : Meaning) (cs : List ℕ) (S : Kept t (m, cs)) where
   pub free_is : free (shape t m) ≡ free_blocks cs
   free_is = free_by_counts t m cs S.standing S.counted S.long
+
+  -- the refusals 10 and 11 by the counts
+  pub needs_is : (k n : ℕ) → needs (shape t m) k n ≡ lacking (m, cs) k n
+  needs_is k n = ap (λ (f : List ℕ). first ((ltb (length f) n, Short) ∷ (ltb m.left n, Worn (Some k) m.left_mark) ∷ [])) free_is
+
+  -- references, where a clone is not there
+  pub vacant : (n : ℕ) → n < 24 → place t.working n ≡ None → (b : ℕ) → rootings t b ≡ 0 + others t n b
+  vacant n h none b =
+      let q = roots_split t n (subst (λ k. n < k) (sym S.working) h) b in
+      let z : occ b (root_in (place t.working n)) ≡ 0 = ap (λ o. occ b (root_in o)) none in
+      omega (arith, q, z)
 
   pub counting : Counting m cs
   counting = let p = sizes_parts (blocks_of m) m.width S.sized in record { wide = (p.2, p.3); sized = S.long; few = subst (λ k. k ≤ 4096) (sym S.long) p.1 }

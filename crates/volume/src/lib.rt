@@ -73,7 +73,7 @@ impl<D: Device> Volume<D> {
     // Refuses a number above 23, and one whose clone is there.
     fn check_vacant(&self, n: u32) -> Result<(), Refusal>
         ensures { MatchResult result
-            (λ _. (early (has self.now.0.working) (create n) ≡ None) × (n < 24))
+            (λ _. (early (has self.now.0.working) (create n) ≡ None) × (n < 24) × (place self.now.0.working n ≡ None))
             (λ e. early (has self.now.0.working) (create n) ≡ Some e) }
     {
         if n > 23 {
