@@ -24,7 +24,7 @@ pub record Editable (m : Meaning) (cs : List ℕ) (root : Root) : Type 0 where
   pub modest : (b : ℕ) → others b ≤ 1000
 
 -- the grant has the n lowest free blocks, and so many writes are left
-pub record Granted (n : ℕ) (m : Meaning) (cs : List ℕ) (grant : List ℕ) : Type 0 where
+pub record Granted (n : ℕ) (m : Meaning) (cs grant : List ℕ) : Type 0 where
   pub these : grant ≡ take n (free_blocks cs)
   pub enough : n ≤ length (free_blocks cs)
   pub left : n ≤ m.left

@@ -41,11 +41,11 @@ fn link_two<D: Device>(store: &mut Store<D>, left: u32, right: u32, lower: &Page
     store.link(right, upper);
 }
 
-// Writes what stands for a child, once the part that a speed belongs to is made anew, to the next two blocks of the grant.
+// Writes what stands for the child of an entry, once the part that a speed belongs to is made anew, to the next two blocks of the grant.
 fn link_kids<D: Device>(
     store: &mut Store<D>,
     grant: &mut Grant,
-    key: u32,
+    entry: Entry,
     child: &Page,
     made: &Page,
     speed: u32,
@@ -55,13 +55,12 @@ fn link_kids<D: Device>(
     requires two { 2 ≤ length grant.old }
     requires left { 2 ≤ store.old.0.left }
     requires level { (child.now.level < 5) × (made.now.level ≡ child.now.level) }
-    requires key { key < 268435456 }
-    ensures kids { map pair result.items ≡ map_e (λ c. c.0) (placed (slice_index grant.old 0) (slice_index grant.old 1) (parted speed key (entries child.now) (entries made.now))) }
-    ensures state { store.new ≡ run (links child.now.level (placed (slice_index grant.old 0) (slice_index grant.old 1) (parted speed key (entries child.now) (entries made.now)))) store.old }
+    ensures kids { map pair result.items ≡ map_e (λ c. c.0) (placed (slice_index grant.old 0) (slice_index grant.old 1) (parted speed entry.speed (entries child.now) (entries made.now))) }
+    ensures state { store.new ≡ run (links child.now.level (placed (slice_index grant.old 0) (slice_index grant.old 1) (parted speed entry.speed (entries child.now) (entries made.now)))) store.old }
     ensures grant { grant.new ≡ drop 2 grant.old }
 {
     let left = Entry {
-        speed: key,
+        speed: entry.speed,
         value: grant.take(),
     };
     if !child.entries.is_full() {
@@ -101,7 +100,7 @@ fn put_in<D: Device>(store: &mut Store<D>, grant: &mut Grant, page: &Page, row: 
     let child = store.open(entry.value);
     let part = part_for(&child, row.speed);
     let made = put_in(store, grant, &part, row);
-    let kids = link_kids(store, grant, entry.speed, &child, &made, row.speed);
+    let kids = link_kids(store, grant, entry, &child, &made, row.speed);
     page.spliced(i..i + 1, &kids)
 }
 

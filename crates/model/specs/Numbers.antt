@@ -1,6 +1,8 @@
 -- The numbers of the volume's refusals, and what each carries.
 use Rattle.std.specs.Prelude.{ℕ, Some, None, Option}
 use Rattle.device.specs.declared.LayerMark.{LayerMark}
+use Rattle.table.specs.declared.row.RowFault.{RowFault}
+use Rattle.table.specs.declared.row.RowFault.TheVariants as row
 use Rattle.model.specs.declared.refusal.Refusal.{Refusal}
 use Rattle.model.specs.declared.refusal.Refusal.TheVariants.{Shape, Number, Speed, Angle, Absent, Taken, Short, Worn, Last, NoVolume, Damaged, Malformed, NoMemory}
 
@@ -67,3 +69,8 @@ layer_named NoVolume = None
 layer_named (Damaged b c k) = Some k
 layer_named (Malformed b c) = None
 layer_named NoMemory = None
+
+-- the refusal of two numbers that are no row
+abbrev pub refused_row : RowFault → Refusal
+refused_row row.Speed = Speed
+refused_row row.Angle = Angle

@@ -1,8 +1,20 @@
 ghost use Rattle.std.specs.Prelude.{◌≡◌};
-ghost use Rattle.model.specs.Numbers.{number, block_named, clone_named, layer_named};
+ghost use Rattle.model.specs.Numbers.{number, refused_row, block_named, clone_named, layer_named};
 
 use super::refusal::Refusal;
 use device::LayerMark;
+use table::RowFault;
+
+impl From<RowFault> for Refusal {
+    ghost from_gives = { λ fault refusal. refusal ≡ refused_row fault };
+
+    fn from(fault: RowFault) -> Refusal {
+        match fault {
+            RowFault::Speed => Refusal::Speed,
+            RowFault::Angle => Refusal::Angle,
+        }
+    }
+}
 
 impl Refusal {
     // The refusal's number; 0 for want of memory.

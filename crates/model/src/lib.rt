@@ -2,6 +2,7 @@
 #![tactic(auto)]
 
 mod carried;
+mod printing;
 mod refusal;
 
 ghost use Rattle.model.specs.Walk.{WalkExact};

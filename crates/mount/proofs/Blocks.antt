@@ -1,6 +1,5 @@
 -- One block: its own fault, and what is known where it has none.
-use Rattle.std.proofs.Common.{◌≡◌, ℕ, ◌<◌, ◌≤◌, Bool, true, false, cond, ◌&&◌, ltb, leb, List, length, Some, None, Ok, Err, Option, Result, sym, refl, ap, ◌∙◌, subst, arith}
-use Rattle.std.proofs.lemmas.Bool.{and_parts, leb-true}
+use Rattle.std.proofs.Common.{◌≡◌, ℕ, ◌<◌, Bool, true, false, List, Some, None, Ok, Err, Option, Result, sym, refl, ap, ◌∙◌, subst, arith}
 use Rattle.std.specs.Bool.{then_some}
 use Rattle.std.specs.Option.{MatchOption, ok_or, option_map, option_or}
 use Rattle.std.specs.Result.{MatchResult}
@@ -8,7 +7,7 @@ use Rattle.device.specs.declared.Layer.{Layer}
 use Rattle.device.specs.declared.DeviceFault.{DeviceFault}
 use Rattle.device.specs.Meaning.{Meaning, Content, words, damaged, blocks_of, current_at, held, reading}
 use Rattle.device.proofs.Calls.{reading_at}
-use Rattle.page.specs.Block.{Block, decode, block_in, block_at, read, fits, same, encode}
+use Rattle.page.specs.Block.{Block, decode, block_in, block_at}
 use Rattle.page.specs.Io.{ReadAs}
 use Rattle.page.specs.View.{view}
 use Rattle.page.specs.declared.page.Page.{Page}
@@ -59,22 +58,6 @@ loaded_made m d p ld =
     let e : ◌≡◌ {A = Option Block} (Some q.0) (Some (view p)) = sym q.1 ∙ ld.here in
     let s : q.0 ≡ view p = cc in
     subst (Made (blocks_of m) d.least d.level d.low d.high) s (made_parts (blocks_of m) d.least d.level d.low d.high q.0 q.2)
-
--- a tree block has few entries
-few_in : (ws : List ℕ) (x : Block) (b t : Bool) → b ≡ fits (read ws) → cond (b && t) (Some (read ws)) None ≡ Some x → length x.entries ≤ 15
-few_in ws x false t e h = absurd (let z : ◌≡◌ {A = ℕ} 0 1 = cc in omega arith)
-few_in ws x true false e h = absurd (let z : ◌≡◌ {A = ℕ} 0 1 = cc in omega arith)
-few_in ws x true true e h =
-    let q : read ws ≡ x = cc in
-    subst (λ (n : Block). length n.entries ≤ 15) q (leb-true (length (read ws).entries) 15 (and_parts (leb (length (read ws).entries) 15) (ltb (read ws).level 5) (sym e)).0)
-
-few_content : (k : Content) (x : Block) → block_in k ≡ Some x → length x.entries ≤ 15
-few_content (words ws) x h = few_in ws x (fits (read ws)) (same ws (encode (length ws) (read ws))) refl h
-few_content (damaged m) x h = absurd (let z : ◌≡◌ {A = ℕ} 0 1 = cc in omega arith)
-
-pub few : (m : Meaning) (b : ℕ) (x : Block) → block_at m b ≡ Some x → length x.entries ≤ 15
-unfolding block_at
-few m b x h = few_content (current_at m b) x h
 
 -- what is read of a block is held there
 held_ok : (k : Content) (ws : List ℕ) → held k ≡ Ok ws → k ≡ words ws

@@ -10,6 +10,7 @@ use Rattle.counts.specs.Counts.{one, occ, parents, Counted}
 use Rattle.counts.specs.Keeping.{retained}
 use Rattle.counts.specs.Moves.{Shaped}
 use Rattle.counts.proofs.Parents.{one_same, one_other}
+use Rattle.counts.proofs.Opens.{occ_append, occ_le}
 use Rattle.model.specs.TreeBlocks.{top_level}
 use Rattle.model.specs.Walk.{least, fault_of}
 use Rattle.model.specs.World.{fresh}
@@ -17,11 +18,7 @@ use Rattle.model.specs.Reach.{roots_of, rootings}
 use Rattle.mount.specs.Tally.{Owing, tallied, Room, Fine}
 use Rattle.mount.specs.Counting.{place_walk, count_at, Counting, Ready}
 use Rattle.mount.proofs.Tally.{tallies, count_more}
-use Rattle.mount.proofs.Walking.{occ_le, count_small, passes_none}
-
-occ_append : (b : ℕ) (xs ys : List ℕ) → occ b (xs ++ ys) ≡ occ b xs + occ b ys
-occ_append b [] ys = omega arith
-occ_append b (x ∷ xs) ys = omega (arith, occ_append b xs ys)
+use Rattle.mount.proofs.Walking.{count_small, passes_none}
 
 parents_zero : (kids : ℕ → List ℕ) (n b : ℕ) → parents kids (replicate n 0) b ≡ 0
 parents_zero kids zero b = refl
@@ -32,13 +29,13 @@ at_zero zero b = refl
 at_zero (suc n) zero = refl
 at_zero (suc n) (suc b) = at_zero n b
 
-pub counting_none : (m : Meaning) (cs : List ℕ) (n : ℕ) → cs ≡ replicate n 0 → n ≡ blocks_of m → Counting m cs []
-counting_none m cs n e k =
+pub counting_none : (m : Meaning) (cs : List ℕ) → cs ≡ replicate (blocks_of m) 0 → Counting m cs []
+counting_none m cs e =
     subst (λ ds. Counting m ds []) (sym e)
     (record {
-      long = length-replicate n 0 ∙ k;
-      owing = λ b. omega (arith, at_zero n b, parents_zero (λ x. kids_of (block_at m x)) n b);
-      fine = λ x p. absurd (omega (arith, at_zero n x));
+      long = length-replicate (blocks_of m) 0;
+      owing = λ b. omega (arith, at_zero (blocks_of m) b, parents_zero (λ x. kids_of (block_at m x)) (blocks_of m) b);
+      fine = λ x p. absurd (omega (arith, at_zero (blocks_of m) x));
     })
 
 -- the roots so far and one more, each twice

@@ -3,44 +3,22 @@ use Rattle.std.proofs.Common.{◌≡◌, ℕ, Bool, true, false, cond, List, Som
 use Rattle.device.specs.Meaning.{Meaning, Lawful, blocks_of, current_at}
 use Rattle.page.specs.Slot.{Table}
 use Rattle.model.specs.declared.refusal.Refusal.{Refusal}
-use Rattle.model.specs.declared.refusal.Refusal.TheVariants.{Shape, NoVolume}
+use Rattle.model.specs.declared.refusal.Refusal.TheVariants.{Shape}
 use Rattle.model.specs.TreeBlocks.{Good, AllGood}
 use Rattle.model.specs.Walk.{Fault, walk}
 use Rattle.model.specs.Reach.{roots_of}
 use Rattle.model.specs.World.{sizes, found, faulty, walked}
 use Rattle.model.proofs.Walks.{walk_exact}
-use Rattle.mount.specs.Counting.{verdict, table_walk, Counting}
+use Rattle.mount.specs.Counting.{Counting}
 use Rattle.mount.specs.Mounts.{current_slot, Kept, MountExact, Accepted, Refused}
 use Rattle.mount.proofs.Counting.{counted}
 use Rattle.mount.proofs.Slots.{usable_of, usable_to, pair_of, pair_used, used_rooted}
 
 -- what mount finds, by its parts
-module _ (m : Meaning) where
-  pub unfit : sizes (blocks_of m) m.width ≡ false → found m ≡ Err Shape
-  unfit h = ap (λ b. cond b (walked (walk (blocks_of m) (current_at m) 0) (current_slot m)) (Err Shape)) h
-
-  module _ (fit : sizes (blocks_of m) m.width ≡ true) where
-    found_by : (o : Option (ℕ × Table)) → o ≡ current_slot m → found m ≡ walked (walk (blocks_of m) (current_at m) 0) o
-    found_by o h =
-        ap (λ b. cond b (walked (walk (blocks_of m) (current_at m) 0) (current_slot m)) (Err Shape)) fit
-        ∙ ap (walked (walk (blocks_of m) (current_at m) 0)) (sym h)
-
-    pub no_slot : None ≡ current_slot m → found m ≡ Err NoVolume
-    no_slot h = found_by None h
-
-    pub accepts : (x : ℕ × Table) → Some x ≡ current_slot m → walk (blocks_of m) (current_at m) 0 x.1 ≡ None → found m ≡ Ok x
-    accepts x h k = found_by (Some x) h ∙ ap (λ (o : Option (ℕ × Fault)). elim o [ Some r ↦ Err (faulty r) | None ↦ Ok x ]) k
-
-    pub refuses : (x : ℕ × Table) (e : Refusal) → Some x ≡ current_slot m → Err e ≡ table_walk m 0 x.1 → found m ≡ Err e
-    refuses x e h k = found_by (Some x) h ∙ go (walk (blocks_of m) (current_at m) 0 x.1) k
-      where
-        go : (o : Option (ℕ × Fault)) → Err e ≡ verdict o → ◌≡◌ {A = Result (ℕ × Table) Refusal} (elim o [ Some r ↦ Err (faulty r) | None ↦ Ok x ]) (Err e)
-        go None k = absurd (let z : ◌≡◌ {A = ℕ} 0 1 = cc in omega arith)
-        go (Some f) k = let q : e ≡ faulty f = cc in ap Err (sym q)
-
-pub no_verdict : (o : Option (ℕ × Fault)) → Ok tt ≡ verdict o → o ≡ None
-no_verdict None h = refl
-no_verdict (Some f) h = absurd (let z : ◌≡◌ {A = ℕ} 0 1 = cc in omega arith)
+accepts : (m : Meaning) (x : ℕ × Table) → sizes (blocks_of m) m.width ≡ true → Some x ≡ current_slot m → walk (blocks_of m) (current_at m) 0 x.1 ≡ None → found m ≡ Ok x
+accepts m x fit h k =
+    let w = walk (blocks_of m) (current_at m) 0 in
+    ap (λ b. cond b (walked w (current_slot m)) (Err Shape)) fit ∙ ap (walked w) (sym h) ∙ ap (λ (o : Option (ℕ × Fault)). elim o [ Some r ↦ Err (faulty r) | None ↦ Ok x ]) k
 
 record Found (m : Meaning) (x : ℕ × Table) : Type 0 where
   fit : sizes (blocks_of m) m.width ≡ true
@@ -64,7 +42,7 @@ found_parts m x h = by_sizes (sizes (blocks_of m) m.width) refl h
     by_sizes true e h = let p = by_slot (current_slot m) h in record { fit = sym e; slot = p.0; walk = p.1 }
     by_sizes false e h = absurd (let z : ◌≡◌ {A = ℕ} 0 1 = cc in omega arith)
 
-pub all_good : (m : Meaning) (x : ℕ × Table) → current_slot m ≡ Some x → walk (blocks_of m) (current_at m) 0 x.1 ≡ None → AllGood (Good (blocks_of m) (current_at m)) x.1
+all_good : (m : Meaning) (x : ℕ × Table) → current_slot m ≡ Some x → walk (blocks_of m) (current_at m) 0 x.1 ≡ None → AllGood (Good (blocks_of m) (current_at m)) x.1
 all_good m x s k = (walk_exact (blocks_of m) (current_at m) 0 x.1 (used_rooted m x s)).0 k
 
 pub mount_exact : MountExact
@@ -76,11 +54,11 @@ mount_exact m x w = (
       record { usable = u; before = p.before; apart = p.apart; this = p.this; that = p.that; trees = all_good m x f.slot f.walk }),
   (λ k.
       let s = pair_used m x (record { before = k.before; apart = k.apart; this = k.this; that = k.that }) in
-      accepts m (usable_to m k.usable) x (sym s) ((walk_exact (blocks_of m) (current_at m) 0 x.1 (used_rooted m x s)).1 k.trees)),
+      accepts m x (usable_to m k.usable) (sym s) ((walk_exact (blocks_of m) (current_at m) 0 x.1 (used_rooted m x s)).1 k.trees)),
 )
 
 -- an image that is refused is off the layout
-pub off_layout : (m : Meaning) (e : Refusal) → Lawful m → found m ≡ Err e → (x : ℕ × Table) → Kept m x → ⊥
+off_layout : (m : Meaning) (e : Refusal) → Lawful m → found m ≡ Err e → (x : ℕ × Table) → Kept m x → ⊥
 off_layout m e w h x k = absurd (let p : ◌≡◌ {A = Result (ℕ × Table) Refusal} (Err e) (Ok x) = sym h ∙ (mount_exact m x w).1 k in let z : ◌≡◌ {A = ℕ} 0 1 = cc in omega arith)
 
 -- what mount answers, by what is found

@@ -1,6 +1,5 @@
 -- The places of a slot, in order.
-use Rattle.std.proofs.Common.{◌≡◌, ℕ, zero, suc, ◌+◌, true, [], ◌∷◌, drop, Some, None, Ok, Err, Option, Result, sym, refl, ap, ◌∙◌, arith}
-use Rattle.std.proofs.lemmas.Bool.{and_parts}
+use Rattle.std.proofs.Common.{◌≡◌, ℕ, suc, ◌+◌, ◌∷◌, drop, Some, None, Ok, Err, Option, Result, sym, refl, ap, ◌∙◌, arith}
 use Rattle.std.specs.Option.{option_or}
 use Rattle.device.specs.Meaning.{Meaning, blocks_of, current_at}
 use Rattle.page.specs.Slot as slots
@@ -9,14 +8,6 @@ use Rattle.model.specs.declared.refusal.Refusal.{Refusal}
 use Rattle.model.specs.Walk.{Fault, fault_of, pair_with, walk}
 use Rattle.mount.specs.Due.{passes}
 use Rattle.mount.specs.Counting.{place_walk, verdict, table_walk}
-
-rooted_drop : (n i : ℕ) (ps : Table) → every (rooted n) ps ≡ true → every (rooted n) (drop i ps) ≡ true
-rooted_drop n zero ps h = h
-rooted_drop n (suc i) [] h = refl
-rooted_drop n (suc i) (p ∷ ps) h = rooted_drop n i ps (and_parts (rooted n p) (every (rooted n) ps) h).1
-
-pub rooted_at : (n i : ℕ) (ps rest : Table) (p : Option slots.Root) → every (rooted n) ps ≡ true → drop i ps ≡ p ∷ rest → rooted n p ≡ true
-rooted_at n i ps rest p h e = (and_parts (rooted n p) (every (rooted n) rest) (ap (every (rooted n)) (sym e) ∙ rooted_drop n i ps h)).0
 
 -- the walk of one clone, and then of the others
 walk_on : (m : Meaning) (k : ℕ) (o : Option Fault) (t : Table) → Ok tt ≡ passes k o → verdict (option_or (pair_with k o) (walk (blocks_of m) (current_at m) (suc k) t)) ≡ table_walk m (suc k) t

@@ -1,40 +1,29 @@
 -- The steps of the walk.
-use Rattle.std.proofs.Common.{◌≡◌, ℕ, zero, suc, ◌+◌, ◌-◌, ◌*◌, ◌<◌, ◌≤◌, Bool, true, false, cond, ◌&&◌, eqb, ltb, leb, List, [], ◌∷◌, length, get_or, drop, Some, None, Ok, Err, Option, sym, refl, ap, ◌∙◌, subst, ⊎_elim, arith}
-use Rattle.std.proofs.lemmas.Bool.{and_parts, ltb-true, eqb-true, cases_eq}
-use Rattle.std.proofs.lemmas.List.{length-map}
+use Rattle.std.proofs.Common.{◌≡◌, ℕ, zero, suc, ◌+◌, ◌-◌, ◌*◌, ◌<◌, ◌≤◌, Bool, true, false, cond, ◌&&◌, eqb, ltb, leb, List, [], ◌∷◌, map, length, get_or, drop, Some, None, Ok, Err, Option, Result, sym, refl, ap, ◌∙◌, subst, arith}
+use Rattle.std.proofs.lemmas.Bool.{and_parts, ltb-true, eqb-true}
 use Rattle.std.specs.Option.{option_or}
 use Rattle.device.specs.Meaning.{Meaning, Content, blocks_of, current_at}
-use Rattle.page.specs.Block.{Block, block_at, kids_of, children}
+use Rattle.page.specs.Block.{block_at, kids_of, children}
 use Rattle.page.specs.Slot.{every}
-use Rattle.page.specs.View.{entries}
+use Rattle.page.specs.View.{pair, entries}
+use Rattle.page.specs.declared.page.Entry.{Entry}
 use Rattle.page.specs.declared.page.Page.{Page}
 use Rattle.tree.specs.Layout.{next}
 use Rattle.counts.specs.Counts.{occ, parents}
 use Rattle.counts.specs.Keeping.{retained}
 use Rattle.counts.specs.Moves.{Shaped}
-use Rattle.counts.proofs.Parents.{one_same, one_other}
+use Rattle.counts.proofs.Opens.{occ_le, few_kids}
 use Rattle.model.specs.declared.refusal.Refusal.{Refusal}
 use Rattle.model.specs.TreeBlocks.{entries_in}
 use Rattle.model.specs.Walk.{Fault, payable, among, fault_below, fault_at}
 use Rattle.mount.specs.declared.walk.Due.{Due}
 use Rattle.mount.specs.Due.{own_fault, first_fault, passes, Loaded}
 use Rattle.mount.specs.Tally.{along, tallied, kids, Room}
-use Rattle.mount.proofs.Blocks.{split_fault, loaded_made, few}
+use Rattle.mount.proofs.Lists.{drop_here, every_at}
+use Rattle.mount.proofs.Blocks.{split_fault, loaded_made}
 use Rattle.mount.proofs.Tally.{tallies, count_first}
 
 -- Counts stay small.
-kids_few : (o : Option Block) → ((x : Block) → o ≡ Some x → length x.entries ≤ 15) → length (kids_of o) ≤ 15
-kids_few None h = omega arith
-kids_few (Some x) h = at x.level x.entries (h x refl)
-  where
-    at : (l : ℕ) (es : List (ℕ × ℕ)) → length es ≤ 15 → length (children l es) ≤ 15
-    at zero es h = omega arith
-    at (suc l) es h = omega (arith, length-map es (λ e. e.1))
-
-pub occ_le : (b : ℕ) (ks : List ℕ) → occ b ks ≤ length ks
-occ_le b [] = omega arith
-occ_le b (k ∷ ks) = ⊎_elim (λ e. omega (arith, one_same k b e, occ_le b ks)) (λ ne. omega (arith, one_other k b ne, occ_le b ks)) (cases_eq b k)
-
 parents_le : (kids : ℕ → List ℕ) (cs : List ℕ) (b : ℕ) → ((x : ℕ) → length (kids x) ≤ 15) → parents kids cs b ≤ 15 * length cs
 parents_le kids [] b h = omega arith
 parents_le kids (zero ∷ cs) b h = omega (arith, parents_le (λ j. kids (suc j)) cs b (λ x. h (suc x)))
@@ -42,7 +31,7 @@ parents_le kids (suc c ∷ cs) b h = omega (arith, occ_le b (kids 0), h 0, paren
 
 pub count_small : (m : Meaning) (cs due : List ℕ) (b : ℕ) → Shaped m cs → Room m cs due → get_or cs b 0 < 65535
 count_small m cs due b s r =
-    omega (arith, r.owing b, r.modest b, s.sized, s.lawful.few, parents_le (λ x. kids_of (block_at m x)) cs b (λ x. kids_few (block_at m x) (few m x)))
+    omega (arith, r.owing b, r.modest b, s.sized, s.lawful.few, parents_le (λ x. kids_of (block_at m x)) cs b (few_kids m))
 
 -- Answers.
 pub passes_none : (k : ℕ) (o : Option Fault) → Ok tt ≡ passes k o → o ≡ None
@@ -67,11 +56,6 @@ split_tally m (suc l) b cs h =
 kids_pos : (l : ℕ) (es : List (ℕ × ℕ)) → 0 < l → children l es ≡ kids es
 kids_pos zero es h = absurd (omega arith)
 kids_pos (suc l) es h = refl
-
-payable_drop : (n l i : ℕ) (es : List (ℕ × ℕ)) → every (payable n l) es ≡ true → every (payable n l) (drop i es) ≡ true
-payable_drop n l zero es h = h
-payable_drop n l (suc i) [] h = refl
-payable_drop n l (suc i) (e ∷ r) h = payable_drop n l i r (and_parts (payable n l e) (every (payable n l) r) h).1
 
 payable_in : (n l : ℕ) (e : ℕ × ℕ) → 0 < l → payable n l e ≡ true → e.1 < n
 payable_in n zero e h k = absurd (omega arith)
@@ -117,10 +101,10 @@ module _ (m : Meaning) (d : Due) (p : Page) (es : List (ℕ × ℕ)) (ld : Loade
         modest = r.modest;
       })
 
-  pub child_in : (i s c : ℕ) (rest : List (ℕ × ℕ)) → 0 < d.level → drop i es ≡ (s, c) ∷ rest → c < blocks_of m
+  child_in : (i s c : ℕ) (rest : List (ℕ × ℕ)) → 0 < d.level → drop i es ≡ (s, c) ∷ rest → c < blocks_of m
   child_in i s c rest up e =
-      let o = ap (every (payable (blocks_of m) d.level)) (sym e) ∙ payable_drop (blocks_of m) d.level i es (ap (every (payable (blocks_of m) d.level)) same ∙ (loaded_made m d p ld).pays) in
-      payable_in (blocks_of m) d.level (s, c) up (and_parts (payable (blocks_of m) d.level (s, c)) (every (payable (blocks_of m) d.level) rest) o).0
+      let pays = payable (blocks_of m) d.level in
+      payable_in (blocks_of m) d.level (s, c) up (every_at pays i es rest (s, c) (ap (every pays) same ∙ (loaded_made m d p ld).pays) e)
 
   -- a child's fault is the first
   pub child_first : (i s c : ℕ) (rest : List (ℕ × ℕ)) (e : Refusal) → 0 < d.level → drop i es ≡ (s, c) ∷ rest
@@ -155,6 +139,22 @@ module _ (m : Meaning) (d : Due) (p : Page) (es : List (ℕ × ℕ)) (ld : Loade
           ∙ ap (λ xs. cond (eqb (get_or cs d.block 0) 0) (along (tallied m (d.level - 1)) es xs) xs) ec
           ∙ ap (λ es. cond (eqb (get_or cs d.block 0) 0) (along (tallied m (d.level - 1)) es (retained d.block cs)) (retained d.block cs)) (sym entries_here)
           ∙ sym (split_tally m d.level d.block cs up)
+
+-- One turn of the loop over the entries xs of the page p: the child at entry i, e.
+pub record Turn (m : Meaning) (d : Due) (es : List (ℕ × ℕ)) (i : ℕ) (e : Entry) : Type 0 where
+  pub here : drop i es ≡ (e.speed, e.value) ∷ drop (i + 1) es
+  pub within : e.value < blocks_of m
+
+pub turn : (m : Meaning) (d : Due) (p : Page) (xs : List Entry) (i : ℕ) (e : Entry) → Loaded m d p → xs ≡ p.entries.items → 0 < d.level → e ≡ get_or xs i e → i < length xs → Turn m d (map pair xs) i e
+turn m d p xs i e ld same up is lt =
+    let q = drop_here pair xs i e is lt in
+    record { here = q; within = child_in m d p (map pair xs) ld (ap (map pair) same) i e.speed e.value (drop (i + 1) (map pair xs)) up q }
+
+-- what is answered for the child, walked on a device that means m, below the bound that was looked up in the page
+pub child_answer : (m mᵢ : Meaning) (d : Due) (p : Page) (xs : List Entry) (i high : ℕ) (e : Entry) (r : Result Unit Refusal) → xs ≡ p.entries.items → mᵢ ≡ m → high ≡ next d.high (drop (i + 1) (entries p))
+    → r ≡ passes d.clone (child_fault mᵢ d e.speed high e.value) → r ≡ passes d.clone (child_fault m d e.speed (next d.high (drop (i + 1) (map pair xs))) e.value)
+child_answer m mᵢ d p xs i high e r same kept up a =
+    a ∙ ap (λ m. passes d.clone (child_fault m d e.speed high e.value)) kept ∙ ap (λ u. passes d.clone (child_fault m d e.speed u e.value)) (up ∙ ap (λ xs. next d.high (drop (i + 1) (map pair xs))) (sym same))
 
 -- the next child's reference is due
 pub next_room : (m : Meaning) (cs : List ℕ) (es rest : List (ℕ × ℕ)) (s c : ℕ) → es ≡ (s, c) ∷ rest → Room m cs (kids es) → Room m cs (c ∷ [])

@@ -37,11 +37,7 @@ fn root_due(root: Root, clone: u32) -> Due
 }
 
 // Walks the tree of a clone, if it is there, and counts its root for the working and for the committed place.
-fn visit<D: Device>(
-    store: &mut Store<D>,
-    place: Option<Root>,
-    clone: u32,
-) -> Result<(), Refusal>
+fn visit<D: Device>(store: &mut Store<D>, place: Option<Root>, clone: u32) -> Result<(), Refusal>
     requires rooted { rooted (blocks_of store.old.0) (root_of place) ≡ true }
     requires ready { Ready store.old.0 store.old.1 }
     ensures kept { store.new.0 ≡ store.old.0 }

@@ -75,7 +75,9 @@ fn is_payable(level: u32, speed: u32, value: u32, blocks: u32) -> bool
 fn are_payable(page: &Page, level: u32, blocks: u32) -> bool
     ensures { result ≡ every (payable blocks level) (entries page.now) }
 {
-    page.entries.iter().all(|e| is_payable(level, e.speed, e.value, blocks))
+    page.entries
+        .iter()
+        .all(|e| is_payable(level, e.speed, e.value, blocks))
 }
 
 fn starts_at(page: &Page, level: u32, low: u32) -> bool
@@ -108,7 +110,11 @@ fn load<D: Device>(store: &mut Store<D>, due: Due) -> Result<Page, Refusal>
 {
     let Due { clone, block, .. } = due;
     let blocks = store.blocks();
-    let page: Option<Page> = store.read(block).map_err(|fault| Met { fault, clone, block })?;
+    let page: Option<Page> = store.read(block).map_err(|fault| Met {
+        fault,
+        clone,
+        block,
+    })?;
     page.filter(|page| is_well_made(page, due, blocks))
         .ok_or(Refusal::Malformed { block, clone })
 }

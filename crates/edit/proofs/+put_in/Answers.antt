@@ -66,22 +66,22 @@ link_kids-kids-requires g t c =
       two = L.two;
       left = L.left;
       level = (omega (arith, L.above, c.args.page.now.few.1), L.level);
-      key = c.index-deref-i.result.small.0;
     }
 
 pub spliced-requires-clause-room : goal.spliced-requires-clause-room
 spliced-requires-clause-room g t c = omega (arith, room _ _ _ _ _ c.requires.able, entries_length c.args.page.now, c.deref-2.ensures.1)
 
+-- the page with the kids in place of the entry
+spliced : (p q : Page) (i : ℕ) (ks xs : List Entry) → xs ≡ ks → q.level ≡ p.level → entries q ≡ take i (entries p) ++ (map pair xs ++ drop (i + 1) (entries p)) → view q ≡ page p.level (take i (entries p) ++ (map pair ks ++ drop (suc i) (entries p)))
+spliced p q i ks xs e v es = ap₂ page v (es ∙ ap₂ (λ (xs : List Entry) (n : ℕ). take i (entries p) ++ (map pair xs ++ drop n (entries p))) e (add-one i))
+
 pub returns-clause-made : goal.returns-clause-made
 returns-clause-made g t c =
     let d = (goal.at.returns-clause-made g t c).After-put_in-made in
     let L = link g t d in
-    let es = entries c.args.page.now in
-    let i = c.covering-i.result in
-    let ks = map pair c.link_kids-kids.result.items in
-    up_any _ _ _ _ _ _ _ (C g t d) _ _ _ (P g t d) _ _ _ c.put_in-made.ensures.made _ c.put_in-made.ensures.grant c.link_kids-kids.new.store ks (view c.spliced.result)
+    up_any _ _ _ _ _ _ _ (C g t d) _ _ _ (P g t d) _ _ _ c.put_in-made.ensures.made _ c.put_in-made.ensures.grant c.link_kids-kids.new.store _ (view c.spliced.result)
     (record { kids = c.link_kids-kids.ensures.kids; state = c.link_kids-kids.ensures.state; laid = parts_laid c.open-child.result c.put_in-made.result _ _ _ _ _ L.wide (omega (arith, L.above, c.args.page.now.few.1)) L.level })
-    (ap₂ page c.spliced.ensures.level (c.spliced.ensures.these ∙ ap₂ (λ (xs : List Entry) (n : ℕ). take i es ++ (map pair xs ++ drop n es)) c.deref-2.ensures.0 (add-one i)))
+    (spliced c.args.page.now c.spliced.result c.covering-i.result c.link_kids-kids.result.items _ c.deref-2.ensures.0 c.spliced.ensures.level c.spliced.ensures.these)
 
 pub returns-clause-grant : goal.returns-clause-grant
 returns-clause-grant g t c =

@@ -8,7 +8,7 @@ use Rattle.edit.proofs.Laying.{first_small}
 use Rattle.edit.proofs.link_kids.Goals as goal
 
 pub invariant_of-left : goal.invariant_of-left
-invariant_of-left g c = record { small = (c.requires.key, omega (arith, ap (λ (gs : List ℕ). get_or gs 0 0) c.take.ensures)) }
+invariant_of-left g c = record { small = (c.args.entry.small.0, omega (arith, ap (λ (gs : List ℕ). get_or gs 0 0) c.take.ensures)) }
 
 pub invariant_of-right : goal.invariant_of-right
 invariant_of-right g c = record {

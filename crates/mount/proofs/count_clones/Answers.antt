@@ -1,4 +1,4 @@
-use Rattle.std.proofs.Common.{◌≡◌, true, [], sym, refl, subst}
+use Rattle.std.proofs.Common.{◌≡◌, true, [], sym, subst}
 use Rattle.device.specs.Meaning.{blocks_of}
 use Rattle.page.specs.Slot.{Table, every, rooted}
 use Rattle.page.specs.View.{slot_of}
@@ -15,4 +15,4 @@ walk_clones-requires-clause-rooted g c =
     (used_rooted c.args.store.now.0 (slot_of c.in_ok-slot.slot) (slot_used c.args.store.now.0 c.read_table.result c.in_ok-slot.slot _ c.read_table.ensures.answer c.in_ok-slot.ensures.value))
 
 pub walk_clones-requires-clause-none : goal.walk_clones-requires-clause-none
-walk_clones-requires-clause-none g c = subst (λ (q : State). Counting q.0 q.1 []) (sym c.read_table.ensures.kept) (counting_none c.args.store.now.0 c.args.store.now.1 (blocks_of c.args.store.now.0) c.requires.none refl)
+walk_clones-requires-clause-none g c = subst (λ (q : State). Counting q.0 q.1 []) (sym c.read_table.ensures.kept) (counting_none c.args.store.now.0 c.args.store.now.1 c.requires.none)

@@ -7,8 +7,8 @@ use Rattle.page.specs.View.{root_of}
 use Rattle.model.specs.Reach.{roots_of}
 use Rattle.mount.specs.Counting.{place_walk, table_walk, count_at, Counting, Ready}
 use Rattle.mount.proofs.Counting.{counting_place, roots_at, roots_more, roots_few}
-use Rattle.mount.proofs.Lists.{drop_at}
-use Rattle.mount.proofs.Visits.{rooted_at, clones_step, clones_stop}
+use Rattle.mount.proofs.Lists.{drop_at, every_at}
+use Rattle.mount.proofs.Visits.{clones_step, clones_stop}
 use Rattle.mount.proofs.clones.walk_clones.Goals as goal
 
 pub visit-requires-clause-rooted : goal.visit-requires-clause-rooted
@@ -18,7 +18,7 @@ visit-requires-clause-rooted g c =
     let t : Table = map root_of ps in
     let i : ℕ = c.loop-clone.clone in
     let p : Option Root = root_of (get_or ps i c.place-item.result) in
-    ap (λ x. rooted (blocks_of x) p) c.loop-clone.invariant.kept ∙ rooted_at (blocks_of m) i t (drop (i + 1) t) p c.requires.rooted (drop_at root_of ps i c.place-item.result (omega (arith, c.loop-clone-test.true, c.args.slot.now.fits.1)))
+    ap (λ x. rooted (blocks_of x) p) c.loop-clone.invariant.kept ∙ every_at (rooted (blocks_of m)) i t (drop (i + 1) t) p c.requires.rooted (drop_at root_of ps i c.place-item.result (omega (arith, c.loop-clone-test.true, c.args.slot.now.fits.1)))
 
 pub visit-requires-clause-ready : goal.visit-requires-clause-ready
 visit-requires-clause-ready g c =
@@ -51,7 +51,7 @@ loop-clone-preserved g c =
     let cs = c.loop-clone.store.1 in
     let e = c.in_ok-visit.ensures.counts ∙ ap (λ x. count_at x p cs) c.loop-clone.invariant.kept in
     let ready : Ready m cs = record { roots = roots_of (take i t); counting = c.loop-clone.invariant.counting; few = omega (arith, roots_few i t, lt, c.args.slot.now.fits.1) } in
-    let good : rooted (blocks_of m) p ≡ true = rooted_at (blocks_of m) i t (drop (i + 1) t) p c.requires.rooted q in
+    let good : rooted (blocks_of m) p ≡ true = every_at (rooted (blocks_of m)) i t (drop (i + 1) t) p c.requires.rooted q in
     let roots : roots_of (take (i + 1) t) ≡ roots_of (take i t) ++ roots_at p = roots_more t i (omega (arith, length-map ps root_of, lt)) ∙ ap (λ x. roots_of (take i t) ++ roots_at x) (get_or-map root_of ps i c.place-item.result None lt) in
     record {
       kept = c.visit.ensures.kept ∙ c.loop-clone.invariant.kept;

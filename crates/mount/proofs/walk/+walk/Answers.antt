@@ -1,16 +1,16 @@
 use Rattle.std.proofs.Common.{◌≡◌, ℕ, ◌+◌, ◌-◌, ◌<◌, Bool, ◌&&◌, cond, eqb, List, [], ◌∷◌, map, length, get_or, drop, None, Err, sym, refl, ap, ◌∙◌, subst, arith}
 use Rattle.std.proofs.lemmas.Result.{err_from_is_err_and}
 use Rattle.device.specs.Meaning.{Meaning, blocks_of}
-use Rattle.page.specs.View.{pair, entries}
+use Rattle.page.specs.View.{pair}
+use Rattle.page.specs.declared.page.Page.{Page}
 use Rattle.page.specs.declared.page.Entry.{Entry}
 use Rattle.tree.specs.Layout.{next}
 use Rattle.counts.specs.Keeping.{retained}
 use Rattle.counts.specs.Moves.{State}
 use Rattle.mount.specs.declared.walk.Due.{Due}
-use Rattle.mount.specs.Due.{passes}
 use Rattle.mount.specs.Tally.{Room, tallied}
-use Rattle.mount.proofs.Lists.{drop_here, drop_past}
-use Rattle.mount.proofs.Walking.{count_small, passes_none, child_fault, own_first, start_room, child_in, child_first, no_fault, all_counted, next_room, among_step, along_step, room_step}
+use Rattle.mount.proofs.Lists.{drop_past}
+use Rattle.mount.proofs.Walking.{count_small, passes_none, child_fault, own_first, start_room, child_first, no_fault, all_counted, Turn, turn, child_answer, next_room, among_step, along_step, room_step}
 use Rattle.mount.proofs.walk.+walk.Goals as goal
 
 pub returns-in_err-page-clause-answer : goal.returns-in_err-page-clause-answer
@@ -47,22 +47,18 @@ loop-i-init g t c =
 pub walk-requires : goal.walk-requires
 walk-requires g t c κs within =
     let m : Meaning = c.args.store.now.0 in
-    let d : Due = c.args.due in
-    let xs : List Entry = c.deref-entry-items.result.now in
-    let es : List (ℕ × ℕ) = map pair xs in
+    let es : List (ℕ × ℕ) = map pair c.deref-entry-items.result.now in
     let i : ℕ = c.loop-i.i in
     let e : Entry = c.entry-item.result in
-    let rest : List (ℕ × ℕ) = drop (i + 1) es in
-    let q : drop i es ≡ (e.speed, e.value) ∷ rest = drop_here pair xs i e c.entry-item.is c.loop-i-test.true in (
+    let w : Turn m c.args.due es i e = turn m c.args.due c.in_ok-page.page c.deref-entry-items.result.now i e c.in_ok-page.ensures.answer c.deref-entry-items.ensures.0 c.if-due-gt0.true c.entry-item.is c.loop-i-test.true in (
       omega (arith, c.decreases, c.if-due-gt0.true),
       (
         within,
         (
-          subst (λ x. e.value < blocks_of x) (sym c.loop-i.invariant.kept)
-              (child_in m d c.in_ok-page.page es c.in_ok-page.ensures.answer (ap (map pair) c.deref-entry-items.ensures.0) i e.speed e.value rest c.if-due-gt0.true q),
+          subst (λ x. e.value < blocks_of x) (sym c.loop-i.invariant.kept) w.within,
           (
             omega (arith, c.requires.low),
-            (λ k. subst (λ x. Room x c.loop-i.store.1 (e.value ∷ [])) (sym c.loop-i.invariant.kept) (next_room m c.loop-i.store.1 (drop i es) rest e.speed e.value q (c.loop-i.invariant.room k))),
+            (λ k. subst (λ x. Room x c.loop-i.store.1 (e.value ∷ [])) (sym c.loop-i.invariant.kept) (next_room m c.loop-i.store.1 (drop i es) (drop (i + 1) es) e.speed e.value w.here (c.loop-i.invariant.room k))),
           ),
         ),
       ),
@@ -72,45 +68,43 @@ pub returns-in_err-walk-clause-answer : goal.returns-in_err-walk-clause-answer
 returns-in_err-walk-clause-answer g t c =
     let m : Meaning = c.args.store.now.0 in
     let d : Due = c.args.due in
+    let p : Page = c.in_ok-page.page in
     let xs : List Entry = c.deref-entry-items.result.now in
-    let es : List (ℕ × ℕ) = map pair xs in
-    let same : es ≡ entries c.in_ok-page.page = ap (map pair) c.deref-entry-items.ensures.0 in
     let i : ℕ = c.loop-i.i in
     let e : Entry = c.entry-item.result in
-    let rest : List (ℕ × ℕ) = drop (i + 1) es in
-    let high : c.upper.result ≡ next d.high rest = c.upper.ensures ∙ ap (λ es. next d.high (drop (i + 1) es)) (sym same) in
-    let k = c.in_err-walk.ensures.answer ∙ ap (λ x. passes d.clone (child_fault x d e.speed c.upper.result e.value)) c.loop-i.invariant.kept ∙ ap (λ u. passes d.clone (child_fault m d e.speed u e.value)) high in
+    let ld = c.in_ok-page.ensures.answer in
+    let same = c.deref-entry-items.ensures.0 in
+    let w : Turn m d (map pair xs) i e = turn m d p xs i e ld same c.if-due-gt0.true c.entry-item.is c.loop-i-test.true in
     let y = err_from_is_err_and c.from_residual-in_err-walk.result c.from_residual-in_err-walk.ensures.1 in
-    y.1 ∙ ap Err y.2 ∙ child_first m d c.in_ok-page.page es c.in_ok-page.ensures.answer same i e.speed e.value rest _ c.if-due-gt0.true (drop_here pair xs i e c.entry-item.is c.loop-i-test.true) c.loop-i.invariant.fault k
+    y.1 ∙ ap Err y.2
+    ∙ child_first m d p (map pair xs) ld (ap (map pair) same) i e.speed e.value (drop (i + 1) (map pair xs)) _ c.if-due-gt0.true w.here c.loop-i.invariant.fault
+    (child_answer m c.loop-i.store.0 d p xs i c.upper.result e _ same c.loop-i.invariant.kept c.upper.ensures c.in_err-walk.ensures.answer)
 
 pub loop-i-preserved : goal.loop-i-preserved
 loop-i-preserved g t c =
     let m : Meaning = c.args.store.now.0 in
     let d : Due = c.args.due in
+    let p : Page = c.in_ok-page.page in
     let l : ℕ = d.level - 1 in
-    let low : l < 5 = omega (arith, c.requires.low) in
     let xs : List Entry = c.deref-entry-items.result.now in
     let es : List (ℕ × ℕ) = map pair xs in
-    let same : es ≡ entries c.in_ok-page.page = ap (map pair) c.deref-entry-items.ensures.0 in
     let i : ℕ = c.loop-i.i in
     let e : Entry = c.entry-item.result in
     let rest : List (ℕ × ℕ) = drop (i + 1) es in
-    let hi : ℕ = next d.high rest in
-    let q : drop i es ≡ (e.speed, e.value) ∷ rest = drop_here pair xs i e c.entry-item.is c.loop-i-test.true in
-    let high : c.upper.result ≡ hi = c.upper.ensures ∙ ap (λ es. next d.high (drop (i + 1) es)) (sym same) in
-    let k : child_fault m d e.speed hi e.value ≡ None = passes_none d.clone (child_fault m d e.speed hi e.value)
-    (c.in_ok-walk.ensures.answer ∙ ap (λ x. passes d.clone (child_fault x d e.speed c.upper.result e.value)) c.loop-i.invariant.kept ∙ ap (λ u. passes d.clone (child_fault m d e.speed u e.value)) high) in
+    let same = c.deref-entry-items.ensures.0 in
+    let w : Turn m d es i e = turn m d p xs i e c.in_ok-page.ensures.answer same c.if-due-gt0.true c.entry-item.is c.loop-i-test.true in
+    let k : child_fault m d e.speed (next d.high rest) e.value ≡ None
+    = passes_none d.clone _ (child_answer m c.loop-i.store.0 d p xs i c.upper.result e _ same c.loop-i.invariant.kept c.upper.ensures c.in_ok-walk.ensures.answer) in
     let first : Bool = c.meet-first.result in
-    let csᵢ : List ℕ = c.loop-i.store.1 in
+    let cs : List ℕ = c.loop-i.store.1 in
     let ds : List ℕ = c.walk.new.store.1 in
-    let n : ds ≡ cond first (tallied m l e.value csᵢ) csᵢ = c.in_ok-walk.ensures.counts ∙ ap (λ x. cond first (tallied x l e.value csᵢ) csᵢ) c.loop-i.invariant.kept in
-    let long : length csᵢ ≡ blocks_of m = c.walk.ensures.shape.sized ∙ ap blocks_of c.loop-i.invariant.kept in
-    let lt : e.value < length csᵢ = omega (arith, long, child_in m d c.in_ok-page.page es c.in_ok-page.ensures.answer same i e.speed e.value rest c.if-due-gt0.true q) in
+    let n : ds ≡ cond first (tallied m l e.value cs) cs = c.in_ok-walk.ensures.counts ∙ ap (λ x. cond first (tallied x l e.value cs) cs) c.loop-i.invariant.kept in
+    let long : length cs ≡ blocks_of m = c.walk.ensures.shape.sized ∙ ap blocks_of c.loop-i.invariant.kept in
     record {
       kept = c.walk.ensures.kept ∙ c.loop-i.invariant.kept;
-      fault = among_step (child_fault m d) d.high (drop i es) rest es e.speed e.value q k c.loop-i.invariant.fault;
-      counts = along_step m l e.value e.speed first csᵢ ds _ (drop i es) rest q n c.loop-i.invariant.counts;
-      room = room_step m l e.speed hi e.value first csᵢ ds low lt long k n (drop i es) rest q c.loop-i.invariant.room;
+      fault = among_step (child_fault m d) d.high (drop i es) rest es e.speed e.value w.here k c.loop-i.invariant.fault;
+      counts = along_step m l e.value e.speed first cs ds _ (drop i es) rest w.here n c.loop-i.invariant.counts;
+      room = room_step m l e.speed (next d.high rest) e.value first cs ds (omega (arith, c.requires.low)) (omega (arith, long, w.within)) long k n (drop i es) rest w.here c.loop-i.invariant.room;
     }
 
 pub returns-after-loop-i-clause-answer : goal.returns-after-loop-i-clause-answer
