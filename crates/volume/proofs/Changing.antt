@@ -1,5 +1,5 @@
 -- A changed tree takes its place: the call's effect, and a sound volume again.
-use Rattle.std.proofs.Common.{◌≡◌, ℕ, zero, suc, ◌+◌, ◌<◌, ◌≤◌, true, T, List, [], ◌∷◌, length, get_or, set, ltb, Some, None, Option, sym, refl, ap, ◌∙◌, subst, ap₂, arith, length-set}
+use Rattle.std.proofs.Common.{◌≡◌, ℕ, zero, suc, ◌+◌, ◌<◌, ◌≤◌, true, T, List, [], ◌∷◌, length, get_or, set, ltb, Some, None, Option, ℤ, pos, negsuc, sym, refl, ap, ◌∙◌, subst, ap₂, arith, length-set}
 use Rattle.device.specs.Meaning.{Content, Meaning, blocks_of, current_at}
 use Rattle.device.specs.Cuts.{Op, Op.write, Op.flush, replay}
 use Rattle.device.proofs.Choices.{blocks_replay, width_replay}
@@ -10,12 +10,16 @@ use Rattle.page.specs.Io.{Wide}
 use Rattle.counts.proofs.Opens.{recount}
 use Rattle.counts.proofs.Steps.{alive_is_reached}
 use Rattle.model.specs.declared.refusal.Refusal.TheVariants.{Short, Worn}
+use Rattle.tree.proofs.Puts.{five_high}
+use Rattle.tree.proofs.Laid.{same_rule}
+use Rattle.table.specs.Rows.{payload_of}
 use Rattle.model.specs.Plain.{first, place}
-use Rattle.model.specs.TreeBlocks.{Tree, Change, Change.begin, Change.puts, Change.takes, changed_on, new_blocks, root_of, tree_at, elem, Each, Good, AllGood, Stored}
-use Rattle.model.specs.Model.{used, free, needs, source, tree_of, new_tree}
+use Rattle.model.specs.TreeBlocks.{Tree, Change, Change.begin, Change.puts, Change.takes, changed_on, new_blocks, bare_tree, root_of, tree_at, top_level, raw, elem, Each, Good, AllGood, Stored}
+use Rattle.model.specs.Model.{used, free, height, needs, source, tree_of, new_tree}
 use Rattle.model.specs.World.{Tables, Mode.mounted, placed, model_of, shape, trees, FreeWrite, Changed, sizes, targets}
 use Rattle.model.specs.Reach.{rootings, Standing}
 use Rattle.model.proofs.TreeLaws.{elem_left, elem_right}
+use Rattle.model.proofs.Places.{forms_place, form_of?}
 use Rattle.model.proofs.Frames.{each_map, good_at, good_set, good_same, OnPlace, Reaches, trees_place, tree_at?}
 use Rattle.model.proofs.Grants.{sizes_parts}
 use Rattle.model.proofs.Histories.{keeps_free}
@@ -23,6 +27,19 @@ use Rattle.model.proofs.Reach.{use_is_reach, free_by_counts}
 use Rattle.edit.specs.Edited.{Counting, Editable, WritesFree, given_up, Edited}
 use Rattle.volume.specs.Kept.{Kept, lacking}
 use Rattle.volume.proofs.Places.{root_in, others, roots_split, roots_placed, few_rootings}
+
+pub raw_payload : (a : ℤ) → payload_of a ≡ raw a
+raw_payload (pos n) = refl
+raw_payload (negsuc n) = omega arith
+
+-- a tree is at most five blocks high
+pub five : (n : ℕ) (c : ℕ → Content) (r : Root) → Good n c r → r.0 ≤ 5
+unfolding tree_at
+five n c r g = low r.0 (five_high ℕ ℕ (tree_at c r).0 (tree_at c r).1 ((same_rule ℕ ℕ (tree_at c r).0 (tree_at c r).1).1 g.fit.laid))
+  where
+    low : (h : ℕ) → top_level h ≤ 4 → h ≤ 5
+    low zero q = omega arith
+    low (suc l) q = omega arith
 
 pub root_block : (c : ℕ → Content) (r : Root) → (tree_at c r).1.0 ≡ r.1
 unfolding tree_at
@@ -60,6 +77,9 @@ module _ (t : Tables) (m : Meaning) (cs : List ℕ) (S : Kept t (m, cs)) where
   module _ (n : ℕ) (r : Root) (at : place t.working n ≡ Some r) where
     pub tree_at_lem : tree_of (model_of t m) n ≡ tree_at (current_at m) r
     tree_at_lem = ap (λ o. elim o as (λ _. Tree) [ Some x ↦ x.1 | None ↦ (0, (0, [])) ]) (trees_place (current_at m) t.working n ∙ ap (tree_at? (current_at m)) at)
+
+    pub high : height (shape t m) n ≡ r.0
+    high = ap (λ o. elim o as (λ _. ℕ) [ Some x ↦ x.0.0 | None ↦ 0 ]) (forms_place (trees (current_at m) t.working) n ∙ ap form_of? (trees_place (current_at m) t.working n ∙ ap (tree_at? (current_at m)) at))
 
     pub good_here : Good (blocks_of m) (current_at m) r
     good_here = subst (OnPlace (Good (blocks_of m) (current_at m))) at (good_at (Good (blocks_of m) (current_at m)) t.working n S.standing.0)
@@ -132,3 +152,38 @@ module _ (t : Tables) (m : Meaning) (cs : List ℕ) (S : Kept t (m, cs)) where
             let q = roots_placed t n (subst (λ k. n < k) (sym S.working) h) b (Some r) in
             let z : occ b (root_in (Some r)) ≡ one r.1 b + 0 = refl in
             omega (arith, e, q, z)
+
+-- what a changed tree in a place comes to: a volume as before, and the effect, by some device calls
+pub record There (t : Tables) (m : Meaning) (n : ℕ) (d : Change ℕ) (r : Root) (m' : Meaning) (cs' : List ℕ) : Type 0 where
+  pub kept : Kept (placed t (set t.working n (Some r))) (m', cs')
+  pub os : List Op
+  pub trace : m' ≡ replay os m
+  pub effect : Changed t m n d os (mounted (placed t (set t.working n (Some r)))) m'
+
+module _ (t : Tables) (m : Meaning) (cs : List ℕ) (S : Kept t (m, cs)) (n : ℕ) (h : n < 24) where
+  -- a row is put into a clone's tree
+  pub put_there : (r : Root) → place t.working n ≡ Some r → (s a : ℕ) (m' : Meaning) (cs' : List ℕ) (r' : Root)
+      → Edited (puts s a) (tree_at (current_at m) r) m cs m' cs' → r' ≡ root_of (changed_on ℕ (puts s a) (free_blocks cs) (tree_at (current_at m) r)) → Good (blocks_of m') (current_at m') r'
+      → There t m n (puts s a) r' m' cs'
+  put_there r at s a m' cs' r' E e G =
+      let is : tree_at (current_at m) r ≡ source (model_of t m) n (puts s a) = sym (tree_at_lem t m cs S n r at) in
+      let E' : Edited (puts s a) (source (model_of t m) n (puts s a)) m cs m' cs' = subst (λ x. Edited (puts s a) x m cs m' cs') is E in
+      let e' : r' ≡ root_of (changed_on ℕ (puts s a) (free_blocks cs) (source (model_of t m) n (puts s a))) = e ∙ ap (λ x. root_of (changed_on ℕ (puts s a) (free_blocks cs) x)) is in
+      let old : (b : ℕ) → rootings t b ≡ given_up (puts s a) (source (model_of t m) n (puts s a)) b + others t n b
+      = λ b. split_here t m cs S n r at h b ∙ ap (λ (y : ℕ). one y b + others t n b) (sym (root_block (current_at m) r) ∙ ap (λ (x : Tree). x.1.0) is) in
+      record {
+        kept = sound_there t m cs S n h (puts s a) old m' cs' r' E' e' G;
+        os = E'.os;
+        trace = E'.trace;
+        effect = changed_there t m cs S n h (puts s a) old m' cs' r' E' e' G;
+      }
+
+  -- a new tree with no row
+  pub create_there : place t.working n ≡ None → (m' : Meaning) (cs' : List ℕ) (r' : Root)
+      → Edited begin bare_tree m cs m' cs' → r' ≡ root_of (changed_on ℕ begin (free_blocks cs) bare_tree) → Good (blocks_of m') (current_at m') r' → There t m n begin r' m' cs'
+  create_there none m' cs' r' E e G = record {
+    kept = sound_there t m cs S n h begin (vacant t m cs S n h none) m' cs' r' E e G;
+    os = E.os;
+    trace = E.trace;
+    effect = changed_there t m cs S n h begin (vacant t m cs S n h none) m' cs' r' E e G;
+  }

@@ -2,7 +2,7 @@
 #![tactic(auto)]
 
 ghost use Rattle.std.specs.Prelude.{◌≡◌, ◌<◌, ◌≤◌, true, Some, None, IfOk, IfErr, MatchResult};
-ghost use Rattle.model.specs.Plain.{Ask.create, Ask.clone, Ask.delete, early, has, place};
+ghost use Rattle.model.specs.Plain.{Ask.create, Ask.clone, Ask.delete, Ask.put, early, has, place};
 ghost use Rattle.page.specs.View.{root_of};
 ghost use Rattle.device.specs.Meaning.{blocks_of};
 ghost use Rattle.edit.specs.Edited.{Granted};
@@ -11,10 +11,12 @@ ghost use Rattle.volume.specs.Kept.{Called, lacking};
 
 use counts::{Grant, Store};
 use device::Device;
-use edit::create_tree;
+use edit::{create_tree, put_tree};
 use model::Refusal;
+use page::page::Entry;
 use page::roots::Root;
 use std::marker::Model;
+use table::Row;
 
 // 24 clones of pitch tables on a device, and the 24 that were committed last.
 pub struct Volume<D: Device> {
@@ -97,6 +99,22 @@ impl<D: Device> Volume<D> {
         self.root_at(n).ok_or(Refusal::Absent)
     }
 
+    // The root of a clone's tree and the row to be put; refuses a number above 23, then a speed and an angle out of their ranges,
+    // then a clone that is not there.
+    fn check_put(&self, n: u32, speed: u32, angle: i32) -> Result<(Root, Row), Refusal>
+        ensures { MatchResult result
+            (λ x. (early (has self.now.0.working) (put n speed angle) ≡ None) × (n < 24)
+            × (place self.now.0.working n ≡ Some (x.0.height, x.0.block)) × (x.1.speed ≡ speed) × (x.1.angle ≡ angle))
+            (λ e. early (has self.now.0.working) (put n speed angle) ≡ Some e) }
+    {
+        if n > 23 {
+            return Err(Refusal::Number);
+        }
+        let row = Row::new(speed, angle)?;
+        let root = self.root_at(n).ok_or(Refusal::Absent)?;
+        Ok((root, row))
+    }
+
     // The root of the clone to be copied; refuses numbers above 23, a source that is not there, and a copy that is.
     fn check_copy(&self, from: u32, to: u32) -> Result<Root, Refusal>
         ensures { MatchResult result
@@ -142,6 +160,20 @@ impl<D: Device> Volume<D> {
         let grant = reserve(&self.store, n, 1)?;
         let root = create_tree(&mut self.store, grant);
         self.working[n as usize] = Some(root);
+        Ok(())
+    }
+
+    // Sets a row of a clone, whatever stood at its speed.
+    pub fn put(&mut self, n: u32, speed: u32, angle: i32) -> Result<(), Refusal>
+        ensures { Called (put n speed angle) tt self.old result self.new }
+    {
+        let (root, row) = self.check_put(n, speed, angle)?;
+        let grant = reserve(&self.store, n, 2 * root.height + 1)?;
+        let entry = Entry {
+            speed: row.speed,
+            value: row.payload(),
+        };
+        self.working[n as usize] = Some(put_tree(&mut self.store, root, entry, grant));
         Ok(())
     }
 }
