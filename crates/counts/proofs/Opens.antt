@@ -69,7 +69,7 @@ pub occ_le : (b : ℕ) (ks : List ℕ) → occ b ks ≤ length ks
 occ_le b [] = omega arith
 occ_le b (k ∷ ks) = ⊎_elim (λ e. omega (arith, one_same k b e, occ_le b ks)) (λ ne. omega (arith, one_other k b ne, occ_le b ks)) (cases_eq b k)
 
-parents_le : (kids : ℕ → List ℕ) (cs : List ℕ) (b : ℕ) → ((x : ℕ) → length (kids x) ≤ 15) → parents kids cs b ≤ 15 * length cs
+pub parents_le : (kids : ℕ → List ℕ) (cs : List ℕ) (b : ℕ) → ((x : ℕ) → length (kids x) ≤ 15) → parents kids cs b ≤ 15 * length cs
 parents_le kids [] b h = omega arith
 parents_le kids (zero ∷ cs) b h = omega (arith, parents_le (λ j. kids (suc j)) cs b (λ x. h (suc x)))
 parents_le kids (suc c ∷ cs) b h = omega (arith, occ_le b (kids 0), h 0, parents_le (λ j. kids (suc j)) cs b (λ x. h (suc x)))

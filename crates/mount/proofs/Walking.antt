@@ -1,5 +1,5 @@
 -- The steps of the walk.
-use Rattle.std.proofs.Common.{◌≡◌, ℕ, zero, suc, ◌+◌, ◌-◌, ◌*◌, ◌<◌, ◌≤◌, Bool, true, false, cond, ◌&&◌, eqb, ltb, leb, List, [], ◌∷◌, map, length, get_or, drop, Some, None, Ok, Err, Option, Result, sym, refl, ap, ◌∙◌, subst, arith}
+use Rattle.std.proofs.Common.{◌≡◌, ℕ, zero, suc, ◌+◌, ◌-◌, ◌<◌, Bool, true, false, cond, ◌&&◌, eqb, ltb, leb, List, [], ◌∷◌, map, length, get_or, drop, Some, None, Ok, Err, Option, Result, sym, refl, ap, ◌∙◌, subst, arith}
 use Rattle.std.proofs.lemmas.Bool.{and_parts, ltb-true, eqb-true}
 use Rattle.std.specs.Option.{option_or}
 use Rattle.device.specs.Meaning.{Meaning, Content, blocks_of, current_at}
@@ -9,10 +9,10 @@ use Rattle.page.specs.View.{pair, entries}
 use Rattle.page.specs.declared.page.Entry.{Entry}
 use Rattle.page.specs.declared.page.Page.{Page}
 use Rattle.tree.specs.Layout.{next}
-use Rattle.counts.specs.Counts.{occ, parents}
+use Rattle.counts.specs.Counts.{occ}
 use Rattle.counts.specs.Keeping.{retained}
 use Rattle.counts.specs.Moves.{Shaped}
-use Rattle.counts.proofs.Opens.{occ_le, few_kids}
+use Rattle.counts.proofs.Opens.{few_kids, parents_le}
 use Rattle.model.specs.declared.refusal.Refusal.{Refusal}
 use Rattle.model.specs.TreeBlocks.{entries_in}
 use Rattle.model.specs.Walk.{Fault, payable, among, fault_below, fault_at}
@@ -24,11 +24,6 @@ use Rattle.mount.proofs.Blocks.{split_fault, loaded_made}
 use Rattle.mount.proofs.Tally.{tallies, count_first}
 
 -- Counts stay small.
-parents_le : (kids : ℕ → List ℕ) (cs : List ℕ) (b : ℕ) → ((x : ℕ) → length (kids x) ≤ 15) → parents kids cs b ≤ 15 * length cs
-parents_le kids [] b h = omega arith
-parents_le kids (zero ∷ cs) b h = omega (arith, parents_le (λ j. kids (suc j)) cs b (λ x. h (suc x)))
-parents_le kids (suc c ∷ cs) b h = omega (arith, occ_le b (kids 0), h 0, parents_le (λ j. kids (suc j)) cs b (λ x. h (suc x)))
-
 pub count_small : (m : Meaning) (cs due : List ℕ) (b : ℕ) → Shaped m cs → Room m cs due → get_or cs b 0 < 65535
 count_small m cs due b s r =
     omega (arith, r.owing b, r.modest b, s.sized, s.lawful.few, parents_le (λ x. kids_of (block_at m x)) cs b (few_kids m))

@@ -1,0 +1,70 @@
+use Rattle.std.proofs.Common.{◌≡◌, ℕ, List, ℤ, Some, None, Option, sym, refl, ap, ◌∙◌, subst, ap₂}
+use Rattle.std.specs.Option.{option_map}
+use Rattle.device.specs.Meaning.{Meaning, current_at}
+use Rattle.table.specs.Rows.{pair_of}
+use Rattle.table.specs.Angles.{up_to, past, angle_by, angle_at}
+use Rattle.tree.specs.Node.{map_e}
+use Rattle.page.specs.View.{entries}
+use Rattle.model.specs.TreeBlocks.{angle}
+use Rattle.reads.specs.Sound.{rows_at}
+use Rattle.reads.specs.Descent.{Beside, rows_beside}
+use Rattle.reads.proofs.Good.{start}
+use Rattle.reads.proofs.Near.{beside_left, beside_right, up_by, past_by, past_alone, up_alone}
+use Rattle.reads.proofs.lookup.at.Goals as goal
+
+pub descend-place-requires : goal.descend-place-requires
+descend-place-requires g c = (start c.args.store.now.0 c.args.root.height c.args.root.block c.requires).sound
+
+pub nearest-requires : goal.nearest-requires
+nearest-requires g c =
+    subst (λ (q : Meaning × List ℕ). Beside (current_at q.0) c.args.speed c.descend-place.result.right) (sym c.descend-place.ensures.kept)
+    (beside_right (current_at c.args.store.now.0) c.args.root.block c.args.speed (entries c.descend-place.result.leaf) _ _ c.descend-place.ensures.found)
+
+pub nearest-requires-in-None-default : goal.nearest-requires-in-None-default
+nearest-requires-in-None-default g c =
+    subst (λ (q : Meaning × List ℕ). Beside (current_at q.0) c.args.speed c.descend-place.result.left) (sym c.descend-place.ensures.kept)
+    (beside_left (current_at c.args.store.now.0) c.args.root.block c.args.speed (entries c.descend-place.result.leaf) _ _ c.descend-place.ensures.found)
+
+-- the angle by the nearest rows of the whole
+by_rows : (rows all : List (ℕ × ℤ)) (s : ℕ) (before after : Option (ℕ × ℤ)) (a : Option ℤ) → a ≡ angle_by before after s → rows ≡ all → up_to s all ≡ before → past s all ≡ after → a ≡ angle_at s rows
+by_rows rows all s before after a e q u p = e ∙ sym (ap (angle_at s) q ∙ ap₂ (λ (x y : Option (ℕ × ℤ)). angle_by x y s) u p)
+
+pub returns-in-Some-Some-clause-answer : goal.returns-in-Some-Some-clause-answer
+returns-in-Some-Some-clause-answer g c =
+    let m = c.args.store.now.0 in
+    let s = c.args.speed in
+    let x = c.args.root.block in
+    let leaf = entries c.descend-place.result.leaf in
+    let f = c.descend-place.ensures.found in
+    let up : up_to s (map_e angle leaf) ≡ Some (pair_of c.in-Some-Some.before) = sym c.around.ensures.before ∙ ap (option_map pair_of) c.in-Some-Some.is-0 in
+    let first : past s (map_e angle leaf) ≡ Some (pair_of c.in-Some-Some.after) = sym c.around.ensures.after ∙ ap (option_map pair_of) c.in-Some-Some.is-1 in
+    by_rows _ (map_e angle (rows_at (current_at m) x)) s (Some (pair_of c.in-Some-Some.before)) (Some (pair_of c.in-Some-Some.after)) c.angle_by.result c.angle_by.ensures (start m c.args.root.height x c.requires).rows
+    (up_by angle (current_at m) s x leaf _ _ f ∙ rw up refl) (past_by angle (current_at m) s x leaf _ _ f ∙ rw first refl)
+
+pub returns-in_default-None-clause-answer : goal.returns-in_default-None-clause-answer
+returns-in_default-None-clause-answer g c =
+    let m = c.args.store.now.0 in
+    let s = c.args.speed in
+    let x = c.args.root.block in
+    let leaf = entries c.descend-place.result.leaf in
+    let right = c.descend-place.result.right in
+    let f = c.descend-place.ensures.found in
+    let first : past s (map_e angle leaf) ≡ None = sym c.around.ensures.after ∙ ap (option_map pair_of) c.in_default-None.is-1 in
+    let near : past s (map_e angle (rows_beside (current_at m) right)) ≡ option_map pair_of c.nearest.result.1
+    = sym (c.nearest.ensures.after ∙ ap (λ (q : Meaning × List ℕ). past s (map_e angle (rows_beside (current_at q.0) right))) c.descend-place.ensures.kept) in
+    by_rows _ _ s _ _ c.angle_by-in_default-None.result c.angle_by-in_default-None.ensures (start m c.args.root.height x c.requires).rows
+    (up_alone angle (current_at m) s x leaf _ _ f first ∙ sym c.around.ensures.before) (past_by angle (current_at m) s x leaf _ _ f ∙ rw first near)
+
+pub returns-in-None-default-clause-answer : goal.returns-in-None-default-clause-answer
+returns-in-None-default-clause-answer g c =
+    let m = c.args.store.now.0 in
+    let s = c.args.speed in
+    let x = c.args.root.block in
+    let leaf = entries c.descend-place.result.leaf in
+    let left = c.descend-place.result.left in
+    let f = c.descend-place.ensures.found in
+    let up : up_to s (map_e angle leaf) ≡ None = sym c.around.ensures.before ∙ ap (option_map pair_of) c.in-None-default.is-0 in
+    let near : up_to s (map_e angle (rows_beside (current_at m) left)) ≡ option_map pair_of c.nearest-in-None-default.result.0
+    = sym (c.nearest-in-None-default.ensures.before ∙ ap (λ (q : Meaning × List ℕ). up_to s (map_e angle (rows_beside (current_at q.0) left))) c.descend-place.ensures.kept) in
+    by_rows _ _ s _ _ c.angle_by-in-None-default.result c.angle_by-in-None-default.ensures (start m c.args.root.height x c.requires).rows
+    (up_by angle (current_at m) s x leaf _ _ f ∙ rw up near) (past_alone angle (current_at m) s x leaf _ _ f up ∙ sym c.around.ensures.after)

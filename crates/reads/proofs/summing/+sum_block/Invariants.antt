@@ -1,0 +1,22 @@
+use Rattle.std.proofs.Common.{◌≡◌, map, take}
+use Rattle.device.specs.Meaning.{current_at}
+use Rattle.page.specs.Block.{block_at, level_of}
+use Rattle.page.specs.View.{pair}
+use Rattle.tree.specs.Node.{map_e}
+use Rattle.tree.specs.Reads.{total}
+use Rattle.model.specs.TreeBlocks.{angle}
+use Rattle.reads.specs.Sound.{rows_in}
+use Rattle.reads.proofs.summing.+sum_block.Given as goal
+
+-- the level of the block
+abbrev pub decreases-sum_block : goal.decreases-sum_block
+decreases-sum_block g l = level_of (block_at l.store.now.0 l.block)
+
+abbrev pub invariant-loop-entry : goal.invariant-loop-entry
+invariant-loop-entry g l =
+    let s = g.S.Summary in
+    let m = l.fn.store.0 in
+    record {
+      kept : l.store ≡ l.fn.store;
+      sum : l.sum ≡ total s.none s.joined s.value_of (map_e angle (rows_in (current_at m) (level_of (block_at m l.block)) (map pair (take l.entry-index l.entry-items))));
+    }

@@ -1,0 +1,30 @@
+use Rattle.std.proofs.Common.{ℕ, length, take, ℤ, sym, ap, ◌∙◌, ap₂, arith}
+use Rattle.std.proofs.lemmas.List.{take_all}
+use Rattle.tree.specs.Reads.{total}
+use Rattle.reads.proofs.Leaves.{rows, row, valid_at, at_item}
+use Rattle.reads.proofs.Totals.{total_one, leaf_more}
+use Rattle.reads.proofs.summing.sum_leaf.Goals as goal
+
+pub row_of-requires : goal.row_of-requires
+row_of-requires g c =
+    let xs = c.args.leaf.now.entries.items in
+    let h = at_item xs c.deref-entry-items.result.now c.loop-entry.entry-index c.entry-item.result c.deref-entry-items.ensures.0 c.loop-entry-test.true c.entry-item.is in
+    valid_at xs c.loop-entry.entry-index c.entry-item.result c.requires h.within h.is
+
+pub loop-entry-preserved : goal.loop-entry-preserved
+loop-entry-preserved g c =
+    let s = g.S.Summary in
+    let w = g.met.S.Summary in
+    let xs = c.args.leaf.now.entries.items in
+    let i = c.loop-entry.entry-index in
+    let e = c.entry-item.result in
+    let h = at_item xs c.deref-entry-items.result.now i e c.deref-entry-items.ensures.0 c.loop-entry-test.true c.entry-item.is in
+    let value = c.of_row.ensures ∙ ap (λ (r : ℕ × ℤ). s.value_of r.0 r.1) c.row_of.ensures in
+    c.join-sum.ensures ∙ ap₂ s.joined c.loop-entry.invariant value
+    ∙ total_one s.none s.joined w.none_before w.none_after w.associates s.value_of (rows (take i xs)) (row e) ∙ ap (total s.none s.joined s.value_of) (sym (leaf_more xs i e h.within h.is))
+
+pub returns : goal.returns
+returns g c =
+    let s = g.S.Summary in
+    let xs = c.args.leaf.now.entries.items in
+    c.loop-entry.invariant ∙ ap (λ z. total s.none s.joined s.value_of (rows z)) (take_all c.loop-entry.entry-index xs (omega (arith, ap length c.deref-entry-items.ensures.0, c.loop-entry-test.false)))

@@ -1,0 +1,4 @@
+pub mod Rows
+pub mod Sound
+pub mod Descent
+pub mod Lists

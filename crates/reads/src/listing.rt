@@ -1,0 +1,67 @@
+// The rows from a speed on.
+ghost use Rattle.std.specs.Prelude.{◌≡◌, min, length, map, take, drop};
+ghost use Rattle.device.specs.Meaning.{current_at};
+ghost use Rattle.tree.specs.Node.{map_e};
+ghost use Rattle.page.specs.View.{entries};
+ghost use Rattle.model.specs.Plain.{from};
+ghost use Rattle.model.specs.TreeBlocks.{angle, Each};
+ghost use Rattle.reads.specs.Rows.{rows_on, GoodOn};
+ghost use Rattle.reads.specs.Sound.{Valid, SoundAt, rows_at};
+ghost use Rattle.reads.specs.Lists.{row_in, due, written};
+
+use super::lookup::row_of;
+use counts::Store;
+use device::Device;
+use page::page::Page;
+use page::roots::Root;
+use table::Pair;
+
+// Writes a leaf's rows from a speed on to a slice, as many as it takes, and answers how many.
+fn list_leaf(leaf: &Page, speed: u32, out: &mut [Pair]) -> usize
+    requires { Each Valid (entries leaf.now) }
+    ensures count { result ≡ min (length out.old) (length (due speed (map_e angle (entries leaf.now)))) }
+    ensures listed { out.new ≡ written (due speed (map_e angle (entries leaf.now))) out.old }
+{
+    let mut n = 0;
+    for entry in leaf.entries.iter() {
+        if entry.speed >= speed && n < out.len() {
+            out[n] = Pair::from(row_of(*entry));
+            n += 1;
+        }
+    }
+    n
+}
+
+// The same for a block and all below it: down to the leaf that covers the speed, and on from there until the slice is full.
+fn list_block<D: Device>(store: &mut Store<D>, block: u32, speed: u32, out: &mut [Pair]) -> usize
+    requires { SoundAt (current_at store.old.0) block }
+    ensures kept { store.new ≡ store.old }
+    ensures count { result ≡ min (length out.old) (length (due speed (map_e angle (rows_at (current_at store.old.0) block)))) }
+    ensures listed { out.new ≡ written (due speed (map_e angle (rows_at (current_at store.old.0) block))) out.old }
+{
+    if out.is_empty() {
+        return 0;
+    }
+    let page = store.read_page(block);
+    if page.level == 0 {
+        return list_leaf(&page, speed, out);
+    }
+    let first = page.covering(speed);
+    let mut n = 0;
+    for entry in page.entries[first..].iter() {
+        n += list_block(store, entry.value, speed, &mut out[n..]);
+    }
+    n
+}
+
+// The first rows of a speed or above, as many as the slice takes: how many they are. Goes down once, reads only the leaves that it
+// lists from, and no block for an empty slice.
+pub fn list<D: Device>(store: &mut Store<D>, root: Root, speed: u32, out: &mut [Pair]) -> usize
+    requires { GoodOn store.old.0 (root.height, root.block) }
+    ensures kept { store.new ≡ store.old }
+    ensures count { result ≡ min (length out.old) (length (from speed (rows_on store.old.0 (root.height, root.block)))) }
+    ensures listed { map row_in (take result out.new) ≡ take (length out.old) (from speed (rows_on store.old.0 (root.height, root.block))) }
+    ensures rest { drop result out.new ≡ drop result out.old }
+{
+    list_block(store, root.block, speed, out)
+}

@@ -1,0 +1,96 @@
+// The angle of a row, and the angle at a speed.
+ghost use Rattle.std.specs.Prelude.{◌≡◌};
+ghost use Rattle.std.specs.Option.{option_map};
+ghost use Rattle.device.specs.Meaning.{current_at};
+ghost use Rattle.table.specs.Rows.{pair_of};
+ghost use Rattle.table.specs.Angles.{up_to, past, angle_at};
+ghost use Rattle.tree.specs.Node.{map_e};
+ghost use Rattle.tree.specs.Reads.{look};
+ghost use Rattle.page.specs.View.{pair, entries};
+ghost use Rattle.model.specs.TreeBlocks.{angle, Each};
+ghost use Rattle.reads.specs.Rows.{rows_on, GoodOn};
+ghost use Rattle.reads.specs.Sound.{Valid};
+ghost use Rattle.reads.specs.Descent.{Beside, rows_beside};
+
+use super::descent::descend;
+use counts::Store;
+use device::Device;
+use page::page::{Entry, Page};
+use page::roots::Root;
+use table::{Row, angle_by};
+
+// The row of an entry of a leaf.
+pub fn row_of(entry: Entry) -> Row
+    requires { Valid (pair entry) }
+    ensures { pair_of result ≡ (entry.speed, angle entry.value) }
+{
+    Row::from_stored(entry.speed, entry.value)
+}
+
+// The angle of a leaf's row of a speed, if there is one.
+fn look_in(leaf: &Page, speed: u32) -> Option<i32>
+    requires { Each Valid (entries leaf.now) }
+    ensures { result ≡ look speed (map_e angle (entries leaf.now)) }
+{
+    let entry = leaf.entries.iter().find(|entry| speed == entry.speed)?;
+    Some(row_of(*entry).angle)
+}
+
+// The angle of the row of a speed, if there is one. Reads one block a level.
+pub fn get<D: Device>(store: &mut Store<D>, root: Root, speed: u32) -> Option<i32>
+    requires { GoodOn store.old.0 (root.height, root.block) }
+    ensures kept { store.new ≡ store.old }
+    ensures answer { result ≡ look speed (rows_on store.old.0 (root.height, root.block)) }
+{
+    let place = descend(store, root.block, speed);
+    look_in(&place.leaf, speed)
+}
+
+// The last row of a leaf at or below a speed, and the first above it.
+fn around(leaf: &Page, speed: u32) -> (Option<Row>, Option<Row>)
+    requires { Each Valid (entries leaf.now) }
+    ensures before { option_map pair_of result.0 ≡ up_to speed (map_e angle (entries leaf.now)) }
+    ensures after { option_map pair_of result.1 ≡ past speed (map_e angle (entries leaf.now)) }
+{
+    let mut before: Option<Row> = None;
+    for entry in leaf.entries.iter() {
+        let row = row_of(*entry);
+        if row.speed > speed {
+            return (before, Some(row));
+        }
+        before = Some(row);
+    }
+    (before, None)
+}
+
+// The same over the rows of a block, if there is one, that are all on one side of the speed: the row that is nearest to it.
+fn nearest<D: Device>(
+    store: &mut Store<D>,
+    block: Option<u32>,
+    speed: u32,
+) -> (Option<Row>, Option<Row>)
+    requires { Beside (current_at store.old.0) speed block }
+    ensures kept { store.new ≡ store.old }
+    ensures before { option_map pair_of result.0 ≡ up_to speed (map_e angle (rows_beside (current_at store.old.0) block)) }
+    ensures after { option_map pair_of result.1 ≡ past speed (map_e angle (rows_beside (current_at store.old.0) block)) }
+{
+    match block {
+        Some(block) => around(&descend(store, block, speed).leaf, speed),
+        None => (None, None),
+    }
+}
+
+// The angle at a speed, if there is a row. The leaf that covers the speed has a row on one side of it at least, so of the other
+// blocks beside the way down at most one is gone down: at most two blocks a level are read.
+pub fn at<D: Device>(store: &mut Store<D>, root: Root, speed: u32) -> Option<i32>
+    requires { GoodOn store.old.0 (root.height, root.block) }
+    ensures kept { store.new ≡ store.old }
+    ensures answer { result ≡ angle_at speed (rows_on store.old.0 (root.height, root.block)) }
+{
+    let place = descend(store, root.block, speed);
+    match around(&place.leaf, speed) {
+        (Some(before), Some(after)) => angle_by(Some(before), Some(after), speed),
+        (None, after) => angle_by(nearest(store, place.left, speed).0, after, speed),
+        (before, None) => angle_by(before, nearest(store, place.right, speed).1, speed),
+    }
+}
