@@ -3,3 +3,4 @@ pub mod Asking
 pub mod Clones
 pub mod Calls
 pub mod Changing
+pub mod Reading

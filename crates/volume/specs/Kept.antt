@@ -1,6 +1,6 @@
 -- What a mounted volume is, and what it keeps from call to call.
 use Rattle.std.specs.Prelude.{◌≡◌, ℕ, ◌≤◌, true, List, [], ◌∷◌, map, length, Some, Ok, Err, Option, Result, nat_lt}
-use Rattle.device.specs.Meaning.{Meaning, blocks_of}
+use Rattle.device.specs.Meaning.{Meaning, blocks_of, current_at}
 use Rattle.device.specs.Cuts.{Op, replay}
 use Rattle.page.specs.Block.{block_at}
 use Rattle.page.specs.declared.roots.Root.{Root}
@@ -9,8 +9,9 @@ use Rattle.counts.specs.Counts.{Counted, free_blocks}
 use Rattle.counts.specs.Moves.{State}
 use Rattle.model.specs.declared.refusal.Refusal.{Refusal}
 use Rattle.model.specs.declared.refusal.Refusal.TheVariants.{Short, Worn}
-use Rattle.model.specs.Plain.{Ask, first}
-use Rattle.model.specs.World.{Tables, Mode.mounted, Asked, sizes}
+use Rattle.model.specs.Plain.{Ask, Map, map_at, first}
+use Rattle.model.specs.Model.{maps_of}
+use Rattle.model.specs.World.{Tables, Mode.mounted, Asked, sizes, trees}
 use Rattle.model.specs.Reach.{rootings, Standing}
 
 -- the tables of roots in memory
@@ -34,6 +35,10 @@ pub record Called {X : Type 0} (q : Ask) (x : X) (v : Tables × Meaning) (r : Re
   pub os : List Op
   pub trace : w.1 ≡ replay os v.1
   pub asked : Asked Err (Ok x) v.0 v.1 q r os (mounted w.0) w.1
+
+-- the rows of clone n
+abbrev pub rows_of_clone : Tables × Meaning → ℕ → Map
+rows_of_clone v n = map_at (maps_of (trees (current_at v.1) v.0.working)) n
 
 -- the refusals of a change of clone k that needs n free blocks: too few blocks are free, or too few writes are left
 abbrev pub lacking : State → ℕ → ℕ → Option Refusal

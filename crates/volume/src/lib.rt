@@ -2,12 +2,14 @@
 #![tactic(auto)]
 
 ghost use Rattle.std.specs.Prelude.{◌≡◌, ◌<◌, ◌≤◌, true, Some, None, IfOk, IfErr, MatchResult};
-ghost use Rattle.model.specs.Plain.{Ask.create, Ask.clone, Ask.delete, Ask.put, early, has, place};
+ghost use Rattle.model.specs.Plain.{Ask.create, Ask.clone, Ask.delete, Ask.put, Ask.get, Ask.at, early, has, place};
 ghost use Rattle.page.specs.View.{root_of};
 ghost use Rattle.device.specs.Meaning.{blocks_of};
+ghost use Rattle.table.specs.Angles.{angle_at};
+ghost use Rattle.tree.specs.Reads.{look};
 ghost use Rattle.edit.specs.Edited.{Granted};
 ghost use Rattle.model.specs.World.{sizes};
-ghost use Rattle.volume.specs.Kept.{Called, lacking};
+ghost use Rattle.volume.specs.Kept.{Called, lacking, rows_of_clone};
 
 use counts::{Grant, Store};
 use device::Device;
@@ -115,6 +117,22 @@ impl<D: Device> Volume<D> {
         Ok((root, row))
     }
 
+    // The root of a clone's tree; refuses a number above 23, then a speed above 9,999, then a clone that is not there.
+    fn check_speed(&self, n: u32, speed: u32) -> Result<Root, Refusal>
+        ensures { MatchResult result
+            (λ root. (early (has self.now.0.working) (get n speed) ≡ None) × (n < 24) × (speed < 10000)
+            × (place self.now.0.working n ≡ Some (root.height, root.block)))
+            (λ e. early (has self.now.0.working) (get n speed) ≡ Some e) }
+    {
+        if n > 23 {
+            return Err(Refusal::Number);
+        }
+        if speed > 9_999 {
+            return Err(Refusal::Speed);
+        }
+        self.root_at(n).ok_or(Refusal::Absent)
+    }
+
     // The root of the clone to be copied; refuses numbers above 23, a source that is not there, and a copy that is.
     fn check_copy(&self, from: u32, to: u32) -> Result<Root, Refusal>
         ensures { MatchResult result
@@ -175,5 +193,21 @@ impl<D: Device> Volume<D> {
         };
         self.working[n as usize] = Some(put_tree(&mut self.store, root, entry, grant));
         Ok(())
+    }
+
+    // The angle of a clone's row of a speed, if there is one.
+    pub fn get(&mut self, n: u32, speed: u32) -> Result<Option<i32>, Refusal>
+        ensures { Called (get n speed) (look speed (rows_of_clone self.old n)) self.old result self.new }
+    {
+        let root = self.check_speed(n, speed)?;
+        Ok(reads::get(&mut self.store, root, speed))
+    }
+
+    // The angle of a clone at a speed, if the clone has a row.
+    pub fn at(&mut self, n: u32, speed: u32) -> Result<Option<i32>, Refusal>
+        ensures { Called (at n speed) (angle_at speed (rows_of_clone self.old n)) self.old result self.new }
+    {
+        let root = self.check_speed(n, speed)?;
+        Ok(reads::at(&mut self.store, root, speed))
     }
 }
