@@ -1,14 +1,15 @@
 // The calls of a mounted volume. docs/volume.md states them.
 #![tactic(auto)]
 
-ghost use Rattle.std.specs.Prelude.{◌≡◌, ◌<◌, ◌≤◌, true, Some, None, IfOk, IfErr, MatchResult};
-ghost use Rattle.model.specs.Plain.{Ask.create, Ask.clone, Ask.delete, Ask.put, Ask.get, Ask.at, early, has, place};
+ghost use Rattle.std.specs.Prelude.{◌≡◌, ℕ, ◌<◌, ◌≤◌, true, min, length, map, take, drop, Some, None, IfOk, OnErr, MatchResult};
+ghost use Rattle.model.specs.Plain.{Ask.create, Ask.clone, Ask.delete, Ask.put, Ask.get, Ask.at, Ask.rows, Ask.summary, early, from, has, place};
 ghost use Rattle.page.specs.View.{root_of};
 ghost use Rattle.device.specs.Meaning.{blocks_of};
 ghost use Rattle.table.specs.Angles.{angle_at};
-ghost use Rattle.tree.specs.Reads.{look};
+ghost use Rattle.tree.specs.Reads.{look, total};
 ghost use Rattle.edit.specs.Edited.{Granted};
 ghost use Rattle.model.specs.World.{sizes};
+ghost use Rattle.reads.specs.Lists.{row_in};
 ghost use Rattle.volume.specs.Kept.{Called, lacking, rows_of_clone};
 
 use counts::{Grant, Store};
@@ -18,7 +19,7 @@ use model::Refusal;
 use page::page::Entry;
 use page::roots::Root;
 use std::marker::Model;
-use table::Row;
+use table::{Pair, Row, Summary};
 
 // 24 clones of pitch tables on a device, and the 24 that were committed last.
 pub struct Volume<D: Device> {
@@ -209,5 +210,23 @@ impl<D: Device> Volume<D> {
     {
         let root = self.check_speed(n, speed)?;
         Ok(reads::at(&mut self.store, root, speed))
+    }
+
+    // Fills the slice with a clone's first rows of a speed or above: how many they are. Later pairs keep their values.
+    pub fn list(&mut self, n: u32, speed: u32, out: &mut [Pair]) -> Result<usize, Refusal>
+        ensures call { Called (rows n speed (length out.old)) (min (length out.old) (length (from speed (rows_of_clone self.old n)))) self.old result self.new }
+        ensures listed { IfOk result (λ k. (map row_in (take k out.new) ≡ take (length out.old) (from speed (rows_of_clone self.old n))) × (drop k out.new ≡ drop k out.old)) }
+        ensures err { OnErr result (out.new ≡ out.old) }
+    {
+        let root = self.check_speed(n, speed)?;
+        Ok(reads::list(&mut self.store, root, speed, out))
+    }
+
+    // A summary of a clone's rows, joined block by block.
+    pub fn summary<S: Summary>(&mut self, n: u32) -> Result<S, Refusal>
+        ensures { (k : ℕ) → Called (summary k n) (total S.none S.joined S.value_of (rows_of_clone self.old n)) self.old result self.new }
+    {
+        let root = self.find(n)?;
+        Ok(reads::summary(&mut self.store, root))
     }
 }
