@@ -1,11 +1,11 @@
 -- A changed tree takes its place: the call's effect, and a sound volume again.
-use Rattle.std.proofs.Common.{◌≡◌, ℕ, zero, suc, ◌+◌, ◌<◌, ◌≤◌, true, T, List, [], ◌∷◌, length, get_or, set, ltb, Some, None, Option, ℤ, pos, negsuc, sym, refl, ap, ◌∙◌, subst, ap₂, arith, length-set}
+use Rattle.std.proofs.Common.{◌≡◌, ℕ, zero, suc, ◌+◌, ◌<◌, ◌≤◌, T, List, [], ◌∷◌, length, get_or, set, ltb, Some, None, ℤ, pos, negsuc, sym, refl, ap, ◌∙◌, subst, ap₂, arith, length-set}
 use Rattle.device.specs.Meaning.{Content, Meaning, blocks_of, current_at}
 use Rattle.device.specs.Cuts.{Op, Op.write, Op.flush, replay}
 use Rattle.device.proofs.Choices.{blocks_replay, width_replay}
 use Rattle.page.specs.Block.{block_at}
 use Rattle.page.specs.Slot.{Root, Table}
-use Rattle.counts.specs.Counts.{one, occ, Counted, free_blocks}
+use Rattle.counts.specs.Counts.{one, occ, free_blocks}
 use Rattle.page.specs.Io.{Wide}
 use Rattle.counts.proofs.Opens.{recount}
 use Rattle.counts.proofs.Steps.{alive_is_reached}
@@ -14,10 +14,10 @@ use Rattle.tree.proofs.Puts.{five_high}
 use Rattle.tree.proofs.Laid.{same_rule}
 use Rattle.table.specs.Rows.{payload_of}
 use Rattle.model.specs.Plain.{first, place}
-use Rattle.model.specs.TreeBlocks.{Tree, Change, Change.begin, Change.puts, Change.takes, changed_on, new_blocks, bare_tree, root_of, tree_at, top_level, raw, elem, Each, Good, AllGood, Stored}
+use Rattle.model.specs.TreeBlocks.{Tree, Change, Change.begin, Change.puts, changed_on, new_blocks, bare_tree, root_of, tree_at, top_level, raw, elem, Each, Good, AllGood, Stored}
 use Rattle.model.specs.Model.{used, free, height, needs, source, tree_of, new_tree}
-use Rattle.model.specs.World.{Tables, Mode.mounted, placed, model_of, shape, trees, FreeWrite, Changed, sizes, targets}
-use Rattle.model.specs.Reach.{rootings, Standing}
+use Rattle.model.specs.World.{Tables, Mode.mounted, placed, model_of, shape, trees, FreeWrite, Changed, sizes}
+use Rattle.model.specs.Reach.{rootings}
 use Rattle.model.proofs.TreeLaws.{elem_left, elem_right}
 use Rattle.model.proofs.Places.{forms_place, form_of?}
 use Rattle.model.proofs.Frames.{each_map, good_at, good_set, good_same, OnPlace, Reaches, trees_place, tree_at?}

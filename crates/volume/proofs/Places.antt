@@ -1,5 +1,5 @@
 -- The roots of the places, when one place changes.
-use Rattle.std.proofs.Common.{◌≡◌, ℕ, zero, suc, ◌+◌, ◌<◌, ◌≤◌, List, [], ◌∷◌, ◌++◌, length, set, Some, None, Option, sym, refl, ap, ◌∙◌, subst, ap₂, arith}
+use Rattle.std.proofs.Common.{◌≡◌, ℕ, zero, suc, ◌+◌, ◌<◌, ◌≤◌, List, [], ◌∷◌, length, set, Some, None, Option, refl, arith}
 use Rattle.page.specs.Slot.{Root, Table}
 use Rattle.counts.specs.Counts.{one, occ}
 use Rattle.counts.proofs.Opens.{occ_append, occ_le}

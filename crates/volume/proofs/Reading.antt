@@ -1,11 +1,9 @@
 -- The calls that only read.
-use Rattle.std.proofs.Common.{◌≡◌, ℕ, List, [], ◌∷◌, Some, None, Ok, Option, ℤ, sym, refl, ap, ◌∙◌, subst}
+use Rattle.std.proofs.Common.{◌≡◌, ℕ, [], Some, None, Ok, sym, refl, ap, ◌∙◌, subst}
 use Rattle.device.specs.Meaning.{Meaning, current_at}
 use Rattle.page.specs.Slot.{Root}
-use Rattle.table.specs.Angles.{angle_at}
-use Rattle.tree.specs.Reads.{look}
-use Rattle.model.specs.Plain.{Map, Ask, Ask.get, Ask.at, Ask.rows, Ask.summary, early, has, place}
-use Rattle.model.specs.World.{Tables, trees, Mode.mounted}
+use Rattle.model.specs.Plain.{Map, Ask.get, Ask.at, Ask.rows, Ask.summary, early, has, place}
+use Rattle.model.specs.World.{Tables, trees}
 use Rattle.model.proofs.Frames.{trees_place, tree_at?}
 use Rattle.model.proofs.Places.{maps_place, rows_of?}
 use Rattle.reads.specs.Rows.{rows_on}

@@ -1,14 +1,16 @@
 // The calls of a mounted volume. docs/volume.md states them.
 #![tactic(auto)]
 
-ghost use Rattle.std.specs.Prelude.{◌≡◌, ℕ, ◌<◌, ◌≤◌, true, min, length, map, take, drop, Some, None, IfOk, OnErr, MatchResult};
+ghost use Rattle.std.specs.Prelude.{◌≡◌, ℕ, ◌<◌, ◌≤◌, true, min, length, map, take, drop, Some, None, Ok, IfOk, OnErr, MatchResult};
 ghost use Rattle.model.specs.Plain.{Ask.create, Ask.clone, Ask.delete, Ask.put, Ask.get, Ask.at, Ask.rows, Ask.summary, early, from, has, place};
 ghost use Rattle.page.specs.View.{root_of};
 ghost use Rattle.device.specs.Meaning.{blocks_of};
 ghost use Rattle.table.specs.Angles.{angle_at};
 ghost use Rattle.tree.specs.Reads.{look, total};
 ghost use Rattle.edit.specs.Edited.{Granted};
-ghost use Rattle.model.specs.World.{sizes};
+ghost use Rattle.page.specs.Slot.{Table};
+ghost use Rattle.model.specs.World.{sizes, found, fresh};
+ghost use Rattle.mount.specs.Mounts.{Refused};
 ghost use Rattle.reads.specs.Lists.{row_in};
 ghost use Rattle.volume.specs.Kept.{Called, lacking, rows_of_clone};
 
@@ -16,8 +18,10 @@ use counts::{Grant, Store};
 use device::Device;
 use edit::{create_tree, put_tree};
 use model::Refusal;
+use mount::{Mounted, mount_store};
 use page::page::Entry;
-use page::roots::Root;
+use page::roots::{Root, Slot};
+use std::alloc::Global;
 use std::marker::Model;
 use table::{Pair, Row, Summary};
 
@@ -67,6 +71,37 @@ fn reserve<D: Device>(store: &Store<D>, clone: u32, n: u32) -> Result<Grant, Ref
 }
 
 impl<D: Device> Volume<D> {
+    // Mounts what a device holds, or gives the device back with the reason why it holds no volume.
+    pub fn mount(heap: Global, device: D) -> Result<Volume<D>, (D, Refusal)>
+        ensures kept { MatchResult result (λ v. v.1 ≡ D.Device.meaning device) (λ e. D.Device.meaning e.0 ≡ D.Device.meaning device) }
+        ensures answer { MatchResult result
+            (λ v. (x : ℕ × Table) × (found (D.Device.meaning device) ≡ Ok x) × (v.0 ≡ fresh x))
+            (λ e. Refused (D.Device.meaning device) e.1) }
+    {
+        let Mounted { store, slot } = mount_store(heap, device)?;
+        let Slot { generation, places } = slot;
+        Ok(Volume {
+            store,
+            working: places,
+            committed: places,
+            generation,
+        })
+    }
+
+    // Gives the device back as it is.
+    pub fn into_device(self) -> D
+        ensures { D.Device.meaning result ≡ self.1 }
+    {
+        let Volume {
+            store,
+            working: _,
+            committed: _,
+            generation: _,
+        } = self;
+        let (device, _counts) = store.into_parts();
+        device
+    }
+
     // The root of a clone's tree, if the clone is there.
     fn root_at(&self, n: u32) -> Option<Root>
         requires { n < 24 }

@@ -1,9 +1,8 @@
-use Rattle.std.proofs.Common.{rules, ◌≡◌, ◌<◌, ◌∷◌, [], List, ℕ, set, Some, None, Ok, Option, sym, refl, ap, ap₂, ◌∙◌, subst}
+use Rattle.std.proofs.Common.{rules, ◌≡◌, List, ℕ, set, Some, Ok, sym, ap, ap₂, ◌∙◌, subst}
 use Rattle.device.specs.Meaning.{Meaning}
 use Rattle.counts.specs.Moves.{State}
 use Rattle.counts.specs.Keeping.{retained}
 use Rattle.page.specs.Slot.{Root}
-use Rattle.page.specs.View.{root_of}
 use Rattle.model.specs.Plain.Ask.{clone}
 use Rattle.model.specs.Plain.{early, has, place}
 use Rattle.model.specs.World.{Tables, placed}

@@ -1,17 +1,15 @@
-use Rattle.std.proofs.Common.{rules, ◌≡◌, ◌+◌, ◌<◌, ◌∷◌, [], List, ℕ, set, Some, None, Ok, Err, Option, sym, refl, ap, ap₂, ◌∙◌, subst, arith}
+use Rattle.std.proofs.Common.{rules, ◌≡◌, set, Some, None, Ok, Err, sym, ap, ◌∙◌, subst}
 use Rattle.device.specs.Meaning.{Meaning}
 use Rattle.counts.specs.Moves.{State}
 use Rattle.page.specs.Slot.{Root}
-use Rattle.page.specs.View.{root_of}
-use Rattle.edit.specs.Edited.{Granted}
 use Rattle.model.specs.Plain.Ask.{create}
 use Rattle.model.specs.Plain.{early, has, place}
-use Rattle.model.specs.TreeBlocks.{Change.begin, bare_tree}
+use Rattle.model.specs.TreeBlocks.{Change.begin}
 use Rattle.model.specs.World.{Tables, placed}
-use Rattle.volume.specs.Kept.{tables, Kept, Called, lacking}
+use Rattle.volume.specs.Kept.{tables, Kept, Called}
 use Rattle.volume.proofs.Asking.{denied_early, denied_late, accepted}
 use Rattle.volume.proofs.Calls.{tables_set}
-use Rattle.volume.proofs.Changing.{counting, needs_is, vacant, changed_there, sound_there}
+use Rattle.volume.proofs.Changing.{needs_is, vacant, changed_there, sound_there}
 use Rattle.volume.proofs.Volume.create.Goals as goal
 
 pub returns-in_err-check_vacant : goal.returns-in_err-check_vacant

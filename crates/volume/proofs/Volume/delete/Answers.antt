@@ -1,8 +1,7 @@
-use Rattle.std.proofs.Common.{rules, ◌≡◌, ◌-◌, ◌<◌, ◌≤◌, ◌∷◌, [], List, ℕ, zero, suc, set, Some, None, Ok, Option, sym, refl, ap, ap₂, ◌∙◌, subst, arith}
+use Rattle.std.proofs.Common.{rules, ◌≡◌, ◌-◌, ◌≤◌, ℕ, zero, suc, set, Some, None, Ok, sym, ap, ◌∙◌, subst, arith}
 use Rattle.device.specs.Meaning.{Meaning}
-use Rattle.counts.specs.Moves.{State, Held, Dropped}
+use Rattle.counts.specs.Moves.{State, Held}
 use Rattle.page.specs.Slot.{Root}
-use Rattle.page.specs.View.{root_of}
 use Rattle.model.specs.Plain.Ask.{delete}
 use Rattle.model.specs.Plain.{early, has, place}
 use Rattle.model.specs.TreeBlocks.{top_level}

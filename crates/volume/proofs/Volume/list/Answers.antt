@@ -1,11 +1,10 @@
-use Rattle.std.proofs.Common.{rules, ◌≡◌, ◌<◌, ◌∷◌, [], min, length, map, take, drop, List, ℕ, ℤ, Some, None, Ok, Option, sym, refl, ap, ◌∙◌, subst}
+use Rattle.std.proofs.Common.{rules, ◌≡◌, min, length, take, ℕ, Ok, sym, ap, ◌∙◌, subst}
 use Rattle.device.specs.Meaning.{Meaning}
 use Rattle.counts.specs.Moves.{State}
 use Rattle.page.specs.Slot.{Root}
 use Rattle.model.specs.Plain.Ask.{rows}
 use Rattle.model.specs.Plain.{Map, early, from, has, place}
 use Rattle.model.specs.World.{Tables}
-use Rattle.reads.specs.Lists.{row_in}
 use Rattle.volume.specs.Kept.{tables, Called, rows_of_clone}
 use Rattle.volume.proofs.Asking.{denied_early}
 use Rattle.volume.proofs.Clones.{good}

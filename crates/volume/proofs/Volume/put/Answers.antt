@@ -1,17 +1,16 @@
-use Rattle.std.proofs.Common.{rules, ◌≡◌, ◌+◌, ◌*◌, ◌<◌, ◌≤◌, ◌∷◌, [], List, ℕ, ℤ, set, Some, None, Ok, Err, Option, w32, sym, refl, ap, ap₂, ◌∙◌, subst, arith}
+use Rattle.std.proofs.Common.{rules, ◌≡◌, ◌+◌, ◌*◌, ◌<◌, ℕ, ℤ, set, Some, None, Ok, Err, w32, sym, ap, ◌∙◌, subst, arith}
 use Rattle.std.proofs.lemmas.Int.{to_z-of_z}
 use Rattle.device.specs.Meaning.{Meaning, blocks_of, current_at}
 use Rattle.counts.specs.Counts.{free_blocks}
 use Rattle.counts.specs.Moves.{State}
 use Rattle.page.specs.Slot.{Root}
-use Rattle.page.specs.View.{root_of}
 use Rattle.edit.specs.Edited.{Edited}
 use Rattle.model.specs.Plain.Ask.{put}
 use Rattle.model.specs.Plain.{early, has, place}
 use Rattle.model.specs.Model.{late, needs}
 use Rattle.model.specs.TreeBlocks.{Change.puts, changed_on, tree_at, root_of as top_of, raw, Good}
 use Rattle.model.specs.World.{Tables, placed, shape}
-use Rattle.volume.specs.Kept.{tables, Kept, Called, lacking}
+use Rattle.volume.specs.Kept.{tables, Kept, Called}
 use Rattle.volume.proofs.Asking.{denied_early, denied_late, accepted}
 use Rattle.volume.proofs.Calls.{tables_set}
 use Rattle.volume.proofs.Clones.{good}

@@ -1,10 +1,10 @@
-use Rattle.std.proofs.Common.{rules, ◌≡◌, ◌<◌, ◌∷◌, [], List, ℕ, ℤ, Some, None, Ok, Option, sym, refl, ap, ◌∙◌, subst}
+use Rattle.std.proofs.Common.{rules, ◌≡◌, Ok, ap, ◌∙◌, subst}
 use Rattle.device.specs.Meaning.{Meaning}
 use Rattle.counts.specs.Moves.{State}
 use Rattle.page.specs.Slot.{Root}
 use Rattle.tree.specs.Reads.{total}
 use Rattle.model.specs.Plain.Ask.{summary}
-use Rattle.model.specs.Plain.{Map, early, has, place}
+use Rattle.model.specs.Plain.{early, has, place}
 use Rattle.model.specs.World.{Tables}
 use Rattle.volume.specs.Kept.{tables, Called, rows_of_clone}
 use Rattle.volume.proofs.Asking.{denied_early}
