@@ -265,3 +265,6 @@ impl<D: Device> Volume<D> {
         Ok(reads::summary(&mut self.store, root))
     }
 }
+
+#[cfg(test)]
+mod tests;
