@@ -1,0 +1,6 @@
+pub mod Places
+pub mod Asking
+pub mod Clones
+pub mod Calls
+pub mod Changing
+pub mod Reading

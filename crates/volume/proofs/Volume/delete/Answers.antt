@@ -1,0 +1,58 @@
+use Rattle.std.proofs.Common.{rules, ◌≡◌, ◌-◌, ◌≤◌, ℕ, zero, suc, set, Some, None, Ok, sym, ap, ◌∙◌, subst, arith}
+use Rattle.device.specs.Meaning.{Meaning}
+use Rattle.counts.specs.Moves.{State, Held}
+use Rattle.page.specs.Slot.{Root}
+use Rattle.model.specs.Plain.Ask.{delete}
+use Rattle.model.specs.Plain.{early, has, place}
+use Rattle.model.specs.TreeBlocks.{top_level}
+use Rattle.model.specs.World.{Tables, placed}
+use Rattle.volume.specs.Kept.{tables, Kept, Called}
+use Rattle.volume.proofs.Asking.{denied_early}
+use Rattle.volume.proofs.Clones.{good, held, dropped}
+use Rattle.volume.proofs.Calls.{tables_set, delete_called}
+use Rattle.volume.proofs.Volume.delete.Goals as goal
+
+pub returns-in_err-root : goal.returns-in_err-root
+returns-in_err-root g c =
+    let d = denied_early c.args.self.now.0 c.args.self.now.1 (delete c.args.n) (tt {0}) c.in_err-root.field-0.0 c.in_err-root.ensures in
+    search rules
+
+pub overflow_sub-root : goal.overflow_sub-root
+overflow_sub-root g c =
+    let r : Root = (c.in_ok-root.root.height, c.in_ok-root.root.block) in
+    let i = c.self.inside in
+    (good (tables i.working i.committed i.generation) i.store c.self.invariant c.args.n r (ap (λ (v : Tables × Meaning). place v.0.working c.args.n) c.self.view_is ∙ c.in_ok-root.ensures.2) c.in_ok-root.ensures.1).height
+
+top_is : (h : ℕ) → 1 ≤ h → top_level h ≡ h - 1
+top_is zero p = absurd (omega arith)
+top_is (suc l) p = omega arith
+
+pub release-requires : goal.release-requires
+release-requires g c =
+    let r : Root = (c.in_ok-root.root.height, c.in_ok-root.root.block) in
+    let i = c.self.inside in
+    let t : Tables = tables i.working i.committed i.generation in
+    let at : place t.working c.args.n ≡ Some r = ap (λ (v : Tables × Meaning). place v.0.working c.args.n) c.self.view_is ∙ c.in_ok-root.ensures.2 in
+    let up : 1 ≤ r.0 = (good t i.store c.self.invariant c.args.n r at c.in_ok-root.ensures.1).height in
+    subst (λ l. Held i.store.0 i.store.1 r.1 l) (top_is r.0 up) (held t i.store c.self.invariant c.args.n r at c.in_ok-root.ensures.1)
+
+pub invariant_of-self : goal.invariant_of-self
+invariant_of-self g c =
+    let r : Root = (c.in_ok-root.root.height, c.in_ok-root.root.block) in
+    let i = c.self.inside in
+    let t : Tables = tables i.working i.committed i.generation in
+    let q : State = i.store in
+    let at : place t.working c.args.n ≡ Some r = ap (λ (v : Tables × Meaning). place v.0.working c.args.n) c.self.view_is ∙ c.in_ok-root.ensures.2 in
+    let k : Kept (placed t (set t.working c.args.n None)) (q.0, c.release.new.self.1) = dropped t q c.self.invariant c.args.n r at c.in_ok-root.ensures.1 c.release.new.self.1 c.release.ensures.sized c.release.ensures.dropped in
+    subst (λ t. Kept t c.release.new.self) (sym (tables_set i.working i.committed i.generation c.args.n None))
+    (subst (λ (m : Meaning). Kept (placed t (set t.working c.args.n None)) (m, c.release.new.self.1)) (sym c.release.ensures.kept) k)
+
+pub returns : goal.returns
+returns g c =
+    let i = c.self.inside in
+    let t : Tables = tables i.working i.committed i.generation in
+    let v : Tables × Meaning = (t, i.store.0) in
+    let d : Called (delete c.args.n) (tt {0}) v (Ok (tt {0})) (placed t (set t.working c.args.n None), c.release.new.self.0)
+    = delete_called v c.args.n c.release.new.self.0 (ap (λ (v : Tables × Meaning). early (has v.0.working) (delete c.args.n)) c.self.view_is ∙ c.in_ok-root.ensures.0) c.release.ensures.kept in
+    subst (λ (t' : Tables). Called (delete c.args.n) (tt {0}) c.args.self.now (Ok (tt {0})) (t', c.release.new.self.0)) (sym (tables_set i.working i.committed i.generation c.args.n None))
+    (subst (λ (v : Tables × Meaning). Called (delete c.args.n) (tt {0}) v (Ok (tt {0})) (placed t (set t.working c.args.n None), c.release.new.self.0)) c.self.view_is d)

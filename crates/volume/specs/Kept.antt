@@ -1,0 +1,45 @@
+-- What a mounted volume is, and what it keeps from call to call.
+use Rattle.std.specs.Prelude.{◌≡◌, ℕ, ◌≤◌, true, List, [], ◌∷◌, map, length, Some, Ok, Err, Option, Result, nat_lt}
+use Rattle.device.specs.Meaning.{Meaning, blocks_of, current_at}
+use Rattle.device.specs.Cuts.{Op, replay}
+use Rattle.page.specs.Block.{block_at}
+use Rattle.page.specs.declared.roots.Root.{Root}
+use Rattle.page.specs.View.{root_of}
+use Rattle.counts.specs.Counts.{Counted, free_blocks}
+use Rattle.counts.specs.Moves.{State}
+use Rattle.model.specs.declared.refusal.Refusal.{Refusal}
+use Rattle.model.specs.declared.refusal.Refusal.TheVariants.{Short, Worn}
+use Rattle.model.specs.Plain.{Ask, Map, map_at, first}
+use Rattle.model.specs.Model.{maps_of}
+use Rattle.model.specs.World.{Tables, Mode.mounted, Asked, sizes, trees}
+use Rattle.model.specs.Reach.{rootings, Standing}
+
+-- the tables of roots in memory
+abbrev pub tables : List (Option Root) → List (Option Root) → ℕ → Tables
+tables working committed generation = record { working = map root_of working; committed = map root_of committed; generation = generation }
+
+-- The volume fits the device and has 24 places in each table; every tree of a place keeps the layout and stands on the device;
+-- and each block's count is the number of its parents, the places among them.
+pub record Kept (t : Tables) (q : State) : Type 0 where
+  pub sized : sizes (blocks_of q.0) q.0.width ≡ true
+  pub working : length t.working ≡ 24
+  pub committed : length t.committed ≡ 24
+  pub generation : t.generation ≤ 268435455
+  pub standing : Standing t q.0
+  pub counted : Counted (block_at q.0) q.1 (rootings t)
+  pub long : length q.1 ≡ blocks_of q.0
+
+-- A call of the volume (t, m): refused as is due, and then nothing changes, or accepted with the answer x and its effect,
+-- by device calls that lead from m to m'.
+pub record Called {X : Type 0} (q : Ask) (x : X) (v : Tables × Meaning) (r : Result X Refusal) (w : Tables × Meaning) : Type 0 where
+  pub os : List Op
+  pub trace : w.1 ≡ replay os v.1
+  pub asked : Asked Err (Ok x) v.0 v.1 q r os (mounted w.0) w.1
+
+-- the rows of clone n
+abbrev pub rows_of_clone : Tables × Meaning → ℕ → Map
+rows_of_clone v n = map_at (maps_of (trees (current_at v.1) v.0.working)) n
+
+-- the refusals of a change of clone k that needs n free blocks: too few blocks are free, or too few writes are left
+abbrev pub lacking : State → ℕ → ℕ → Option Refusal
+lacking q k n = first ((nat_lt (length (free_blocks q.1)) n, Short) ∷ (nat_lt q.0.left n, Worn (Some k) q.0.left_mark) ∷ [])

@@ -1,0 +1,270 @@
+// The calls of a mounted volume. docs/volume.md states them.
+#![tactic(auto)]
+
+ghost use Rattle.std.specs.Prelude.{◌≡◌, ℕ, ◌<◌, ◌≤◌, true, min, length, map, take, drop, Some, None, Ok, IfOk, OnErr, MatchResult};
+ghost use Rattle.model.specs.Plain.{Ask.create, Ask.clone, Ask.delete, Ask.put, Ask.get, Ask.at, Ask.rows, Ask.summary, early, from, has, place};
+ghost use Rattle.page.specs.View.{root_of};
+ghost use Rattle.device.specs.Meaning.{blocks_of};
+ghost use Rattle.table.specs.Angles.{angle_at};
+ghost use Rattle.tree.specs.Reads.{look, total};
+ghost use Rattle.edit.specs.Edited.{Granted};
+ghost use Rattle.page.specs.Slot.{Table};
+ghost use Rattle.model.specs.World.{sizes, found, fresh};
+ghost use Rattle.mount.specs.Mounts.{Refused};
+ghost use Rattle.reads.specs.Lists.{row_in};
+ghost use Rattle.volume.specs.Kept.{Called, lacking, rows_of_clone};
+
+use counts::{Grant, Store};
+use device::Device;
+use edit::{create_tree, put_tree};
+use model::Refusal;
+use mount::{Mounted, mount_store};
+use page::page::Entry;
+use page::roots::{Root, Slot};
+use std::alloc::Global;
+use std::marker::Model;
+use table::{Pair, Row, Summary};
+
+// 24 clones of pitch tables on a device, and the 24 that were committed last.
+pub struct Volume<D: Device> {
+    store: Store<D>,
+    working: [Option<Root>; 24],
+    committed: [Option<Root>; 24],
+    generation: u32,
+}
+
+// The tables, and what the device means.
+impl<D: Device> Model for Volume<D> {
+    ghost use Rattle.device.specs.Meaning.{Meaning};
+    ghost use Rattle.model.specs.World.{Tables};
+
+    ghost Value = { Tables × Meaning };
+
+    ghost use Rattle.volume.specs.Kept.{tables, Kept};
+
+    ghost view = { λ v. (tables v.working v.committed v.generation, v.store.0) };
+
+    ghost invariant = { λ v. Kept (tables v.working v.committed v.generation) v.store };
+}
+
+// So many free blocks for a change of a clone; refuses where fewer are free, and where fewer writes are left.
+fn reserve<D: Device>(store: &Store<D>, clone: u32, n: u32) -> Result<Grant, Refusal>
+    requires few { n ≤ 11 }
+    requires sized { sizes (blocks_of store.now.0) store.now.0.width ≡ true }
+    ensures { MatchResult result
+        (λ grant. (lacking store.now clone n ≡ None) × Granted n store.now.0 store.now.1 grant)
+        (λ e. lacking store.now clone n ≡ Some e) }
+{
+    let Some(mut grant) = store.grant(n as usize) else {
+        return Err(Refusal::Short);
+    };
+    let (left, layer) = store.left();
+    if left < n {
+        grant.give_back_all();
+        grant.end();
+        return Err(Refusal::Worn {
+            clone: Some(clone),
+            layer,
+        });
+    }
+    Ok(grant)
+}
+
+impl<D: Device> Volume<D> {
+    // Mounts what a device holds, or gives the device back with the reason why it holds no volume.
+    pub fn mount(heap: Global, device: D) -> Result<Volume<D>, (D, Refusal)>
+        ensures kept { MatchResult result (λ v. v.1 ≡ D.Device.meaning device) (λ e. D.Device.meaning e.0 ≡ D.Device.meaning device) }
+        ensures answer { MatchResult result
+            (λ v. (x : ℕ × Table) × (found (D.Device.meaning device) ≡ Ok x) × (v.0 ≡ fresh x))
+            (λ e. Refused (D.Device.meaning device) e.1) }
+    {
+        let Mounted { store, slot } = mount_store(heap, device)?;
+        let Slot { generation, places } = slot;
+        Ok(Volume {
+            store,
+            working: places,
+            committed: places,
+            generation,
+        })
+    }
+
+    // Gives the device back as it is.
+    pub fn into_device(self) -> D
+        ensures { D.Device.meaning result ≡ self.1 }
+    {
+        let Volume {
+            store,
+            working: _,
+            committed: _,
+            generation: _,
+        } = self;
+        let (device, _counts) = store.into_parts();
+        device
+    }
+
+    // The root of a clone's tree, if the clone is there.
+    fn root_at(&self, n: u32) -> Option<Root>
+        requires { n < 24 }
+        ensures { root_of result ≡ place self.now.0.working n }
+    {
+        self.working[n as usize]
+    }
+
+    // Refuses a number above 23, and one whose clone is there.
+    fn check_vacant(&self, n: u32) -> Result<(), Refusal>
+        ensures { MatchResult result
+            (λ _. (early (has self.now.0.working) (create n) ≡ None) × (n < 24) × (place self.now.0.working n ≡ None))
+            (λ e. early (has self.now.0.working) (create n) ≡ Some e) }
+    {
+        if n > 23 {
+            return Err(Refusal::Number);
+        }
+        if self.root_at(n).is_some() {
+            return Err(Refusal::Taken);
+        }
+        Ok(())
+    }
+
+    // The root of a clone's tree; refuses a number above 23, and a clone that is not there.
+    fn find(&self, n: u32) -> Result<Root, Refusal>
+        ensures { MatchResult result
+            (λ root. (early (has self.now.0.working) (delete n) ≡ None) × (n < 24) × (place self.now.0.working n ≡ Some (root.height, root.block)))
+            (λ e. early (has self.now.0.working) (delete n) ≡ Some e) }
+    {
+        if n > 23 {
+            return Err(Refusal::Number);
+        }
+        self.root_at(n).ok_or(Refusal::Absent)
+    }
+
+    // The root of a clone's tree and the row to be put; refuses a number above 23, then a speed and an angle out of their ranges,
+    // then a clone that is not there.
+    fn check_put(&self, n: u32, speed: u32, angle: i32) -> Result<(Root, Row), Refusal>
+        ensures { MatchResult result
+            (λ x. (early (has self.now.0.working) (put n speed angle) ≡ None) × (n < 24)
+            × (place self.now.0.working n ≡ Some (x.0.height, x.0.block)) × (x.1.speed ≡ speed) × (x.1.angle ≡ angle))
+            (λ e. early (has self.now.0.working) (put n speed angle) ≡ Some e) }
+    {
+        if n > 23 {
+            return Err(Refusal::Number);
+        }
+        let row = Row::new(speed, angle)?;
+        let root = self.root_at(n).ok_or(Refusal::Absent)?;
+        Ok((root, row))
+    }
+
+    // The root of a clone's tree; refuses a number above 23, then a speed above 9,999, then a clone that is not there.
+    fn check_speed(&self, n: u32, speed: u32) -> Result<Root, Refusal>
+        ensures { MatchResult result
+            (λ root. (early (has self.now.0.working) (get n speed) ≡ None) × (n < 24) × (speed < 10000)
+            × (place self.now.0.working n ≡ Some (root.height, root.block)))
+            (λ e. early (has self.now.0.working) (get n speed) ≡ Some e) }
+    {
+        if n > 23 {
+            return Err(Refusal::Number);
+        }
+        if speed > 9_999 {
+            return Err(Refusal::Speed);
+        }
+        self.root_at(n).ok_or(Refusal::Absent)
+    }
+
+    // The root of the clone to be copied; refuses numbers above 23, a source that is not there, and a copy that is.
+    fn check_copy(&self, from: u32, to: u32) -> Result<Root, Refusal>
+        ensures { MatchResult result
+            (λ root. (early (has self.now.0.working) (clone from to) ≡ None) × (from < 24) × (to < 24)
+            × (place self.now.0.working from ≡ Some (root.height, root.block)) × (place self.now.0.working to ≡ None))
+            (λ e. early (has self.now.0.working) (clone from to) ≡ Some e) }
+    {
+        if from > 23 || to > 23 {
+            return Err(Refusal::Number);
+        }
+        let root = self.root_at(from).ok_or(Refusal::Absent)?;
+        if self.root_at(to).is_some() {
+            return Err(Refusal::Taken);
+        }
+        Ok(root)
+    }
+
+    // Makes a copy of a clone, which shares all blocks of it: none is taken and none is written.
+    pub fn clone_to(&mut self, from: u32, to: u32) -> Result<(), Refusal>
+        ensures { Called (clone from to) tt self.old result self.new }
+    {
+        let root = self.check_copy(from, to)?;
+        self.store.retain(root.block);
+        self.working[to as usize] = Some(root);
+        Ok(())
+    }
+
+    // Makes a clone absent, and gives up its tree.
+    pub fn delete(&mut self, n: u32) -> Result<(), Refusal>
+        ensures { Called (delete n) tt self.old result self.new }
+    {
+        let root = self.find(n)?;
+        self.store.release(root.block, root.height - 1);
+        self.working[n as usize] = None;
+        Ok(())
+    }
+
+    // Makes a clone that has no row.
+    pub fn create(&mut self, n: u32) -> Result<(), Refusal>
+        ensures { Called (create n) tt self.old result self.new }
+    {
+        self.check_vacant(n)?;
+        let grant = reserve(&self.store, n, 1)?;
+        let root = create_tree(&mut self.store, grant);
+        self.working[n as usize] = Some(root);
+        Ok(())
+    }
+
+    // Sets a row of a clone, whatever stood at its speed.
+    pub fn put(&mut self, n: u32, speed: u32, angle: i32) -> Result<(), Refusal>
+        ensures { Called (put n speed angle) tt self.old result self.new }
+    {
+        let (root, row) = self.check_put(n, speed, angle)?;
+        let grant = reserve(&self.store, n, 2 * root.height + 1)?;
+        let entry = Entry {
+            speed: row.speed,
+            value: row.payload(),
+        };
+        self.working[n as usize] = Some(put_tree(&mut self.store, root, entry, grant));
+        Ok(())
+    }
+
+    // The angle of a clone's row of a speed, if there is one.
+    pub fn get(&mut self, n: u32, speed: u32) -> Result<Option<i32>, Refusal>
+        ensures { Called (get n speed) (look speed (rows_of_clone self.old n)) self.old result self.new }
+    {
+        let root = self.check_speed(n, speed)?;
+        Ok(reads::get(&mut self.store, root, speed))
+    }
+
+    // The angle of a clone at a speed, if the clone has a row.
+    pub fn at(&mut self, n: u32, speed: u32) -> Result<Option<i32>, Refusal>
+        ensures { Called (at n speed) (angle_at speed (rows_of_clone self.old n)) self.old result self.new }
+    {
+        let root = self.check_speed(n, speed)?;
+        Ok(reads::at(&mut self.store, root, speed))
+    }
+
+    // Fills the slice with a clone's first rows of a speed or above: how many they are. Later pairs keep their values.
+    pub fn list(&mut self, n: u32, speed: u32, out: &mut [Pair]) -> Result<usize, Refusal>
+        ensures call { Called (rows n speed (length out.old)) (min (length out.old) (length (from speed (rows_of_clone self.old n)))) self.old result self.new }
+        ensures listed { IfOk result (λ k. (map row_in (take k out.new) ≡ take (length out.old) (from speed (rows_of_clone self.old n))) × (drop k out.new ≡ drop k out.old)) }
+        ensures err { OnErr result (out.new ≡ out.old) }
+    {
+        let root = self.check_speed(n, speed)?;
+        Ok(reads::list(&mut self.store, root, speed, out))
+    }
+
+    // A summary of a clone's rows, joined block by block.
+    pub fn summary<S: Summary>(&mut self, n: u32) -> Result<S, Refusal>
+        ensures { (k : ℕ) → Called (summary k n) (total S.none S.joined S.value_of (rows_of_clone self.old n)) self.old result self.new }
+    {
+        let root = self.find(n)?;
+        Ok(reads::summary(&mut self.store, root))
+    }
+}
+
+#[cfg(test)]
+mod tests;
