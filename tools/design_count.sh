@@ -3,7 +3,7 @@
 # Tests (from '#[cfg(test)]' on) are left out. With -v it prints the places too.
 verbose=$1
 sources() {
-    for f in $(git ls-files 'crates/*/src/*.rt'); do
+    for f in $(git ls-files 'crates/*/src/*.rt' | grep -v '/tests.rt$'); do
         awk -v f="$f" '/^#\[cfg\(test\)\]/{exit} {print f ":" FNR ":" $0}' "$f"
     done
 }
@@ -39,7 +39,7 @@ count "a grant's place, length and blocks" 'ensures (next|len|blocks) \{'
 count 'a device and counts as two parameters' 'counts: &mut Counts,'
 echo '6. buffers with a length beside, parallel arrays'
 count 'fields and parameters that are a length or a place of a buffer beside them' '(len|next): usize'
-count 'buffers of the largest size, used in part' '\[0u32; (40|64)\]'
+count 'buffers of the largest size, used in part' '\[0(u32)?; (40|64)\]'
 count 'parallel slices' 'persisted: &.a mut'
 echo '7. switches on which step to run'
 count 'which part of the task' 'Part::'
