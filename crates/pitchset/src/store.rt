@@ -39,7 +39,9 @@ impl<'d, D: Device> TableStore<'d, D> {
     }
 
     // Reads the rows.
-    pub(crate) fn load(&mut self, heap: Global) -> anyhow::Result<Vec<Row>> {
+    pub(crate) fn load(&mut self, heap: Global) -> anyhow::Result<Vec<Row>>
+        ensures { D.Device.meaning self.new.device.now ≡ D.Device.meaning self.old.device.now }
+    {
         let found = read_block(self.device, BLOCK).context("the device refuses the read")?;
         let leaf: Page = found.context("the block holds no table")?;
         let mut rows = Vec::new(heap);
