@@ -4,4 +4,5 @@ pub mod Flat
 pub mod Fillings
 pub mod Splicing
 pub mod Linking
+pub mod Levels
 pub mod Numbers
