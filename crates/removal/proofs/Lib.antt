@@ -6,3 +6,4 @@ pub mod Splicing
 pub mod Linking
 pub mod Levels
 pub mod Numbers
+pub mod Roots
