@@ -1,8 +1,7 @@
 -- A child that is filled, case by case.
-use Rattle.std.proofs.Common.{◌≡◌, ℕ, zero, suc, ◌+◌, ◌-◌, ◌*◌, ◌<◌, ◌≤◌, List, [], ◌∷◌, ◌++◌, length, get_or, take, drop, Some, Option, sym, refl, ap, ◌∙◌, subst, ap₂, ⊎_elim, not-suc-le-zero, arith, length-append, length-drop, length-take, true, is_some}
+use Rattle.std.proofs.Common.{◌≡◌, ℕ, zero, suc, ◌+◌, ◌-◌, ◌<◌, ◌≤◌, List, [], ◌∷◌, ◌++◌, length, get_or, take, drop, Some, Option, sym, refl, ap, ◌∙◌, subst, ap₂, ⊎_elim, arith, length-append, length-drop, true, is_some}
 use Rattle.std.proofs.lemmas.Bool.{cases_lt}
 use Rattle.device.specs.Meaning.{Meaning}
-use Rattle.tree.specs.Node.{Every, map_e}
 use Rattle.tree.specs.Tree.{Pay, Tree, Cell}
 use Rattle.tree.proofs.Over.{map_length}
 use Rattle.tree.proofs.Steps.{map_get, every_get}
@@ -11,14 +10,13 @@ use Rattle.page.specs.View.{pair, view, entries}
 use Rattle.page.specs.declared.page.Page.{Page}
 use Rattle.page.specs.declared.page.Entry.{Entry}
 use Rattle.page.proofs.Pages.{entries_length, entries_at}
-use Rattle.counts.specs.Counts.{one, occ, Counted, opened}
+use Rattle.counts.specs.Counts.{one, occ, Counted}
 use Rattle.counts.proofs.Opens.{recount, open_counted, length_opened, few_kids, occ_le, held_alive}
-use Rattle.counts.specs.Moves.{opening, State, state_of, step, run, Owned}
+use Rattle.counts.specs.Moves.{opening, State, state_of, step, Owned}
 use Rattle.edit.specs.Plan.{shallow, page, node_of, kids, Stored}
 use Rattle.edit.proofs.Downs.{kids_append, kids_around, kids_le, shallow_length}
 use Rattle.removal.specs.declared.filled.Neighbour.TheVariants.{Apart, Merged, After, Before}
-use Rattle.removal.specs.declared.filled.Filled.{Filled}
-use Rattle.removal.specs.Split.{after, before, Split}
+use Rattle.removal.specs.Split.{after, before}
 use Rattle.removal.specs.Able.{Ready, AbleIndex, At, Filling}
 use Rattle.removal.proofs.Indexed.{Covers, cut_two, seg_pair}
 use Rattle.removal.proofs.Splits.{right_apart, right_merged, right_moved, left_apart, left_merged, left_moved}

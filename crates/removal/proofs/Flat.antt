@@ -1,5 +1,5 @@
 -- Entries with their children's numbers alone.
-use Rattle.std.proofs.Common.{◌≡◌, ℕ, zero, suc, List, [], ◌∷◌, ◌++◌, length, take, drop, sym, refl, ap, ◌∙◌, ap₂}
+use Rattle.std.proofs.Common.{◌≡◌, ℕ, zero, suc, List, [], ◌∷◌, ◌++◌, take, drop, sym, refl, ap}
 use Rattle.tree.specs.Node.{first, Every, map_e}
 use Rattle.tree.specs.Tree.{Pay, Tree}
 use Rattle.tree.proofs.Over.{map-append, map_take, map_drop, map_first}

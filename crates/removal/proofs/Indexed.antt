@@ -1,9 +1,7 @@
 -- The children of a block by their places.
-use Rattle.std.proofs.Common.{◌≡◌, ℕ, zero, suc, ◌+◌, ◌<◌, ◌≤◌, true, false, cond, ltb, List, [], ◌∷◌, ◌++◌, length, get_or, take, drop, sym, refl, ap, ◌∙◌, subst, ap₂, ⊎_elim, not-suc-le-zero, arith}
+use Rattle.std.proofs.Common.{◌≡◌, ℕ, zero, suc, ◌<◌, ◌≤◌, List, [], ◌∷◌, ◌++◌, length, get_or, take, drop, refl, ap, subst, ⊎_elim, not-suc-le-zero, arith}
 use Rattle.std.proofs.lemmas.Bool.{lt-ltb, le-ltb, cases_lt}
 use Rattle.tree.specs.Node.{beside, Seg, map_e}
-use Rattle.tree.proofs.Over.{map_take, map_drop, map_length}
-use Rattle.tree.proofs.Steps.{map_get}
 use Rattle.counts.specs.Moves.{Move}
 use Rattle.edit.specs.Remove.{beside_m}
 

@@ -1,6 +1,6 @@
 -- One level of the way down, and back up.
-use Rattle.std.proofs.Common.{◌≡◌, ℕ, zero, suc, ◌+◌, ◌-◌, ◌*◌, ◌<◌, ◌≤◌, List, [], ◌∷◌, ◌++◌, length, get_or, take, drop, sym, refl, ap, ◌∙◌, subst, ap₂, not-suc-le-zero, arith, length-drop}
-use Rattle.device.specs.Meaning.{Meaning, blocks_of}
+use Rattle.std.proofs.Common.{◌≡◌, ℕ, zero, suc, ◌+◌, ◌*◌, ◌<◌, ◌≤◌, List, [], ◌∷◌, ◌++◌, length, get_or, take, drop, sym, refl, ap, ◌∙◌, subst, ap₂, not-suc-le-zero, arith, length-drop}
+use Rattle.device.specs.Meaning.{Meaning}
 use Rattle.tree.specs.Node.{del, Every, map_e}
 use Rattle.tree.specs.Tree.{Pay, Tree, Span}
 use Rattle.tree.proofs.Over.{map-append, map_take, map_drop}
@@ -9,19 +9,19 @@ use Rattle.page.specs.View.{view, entries}
 use Rattle.counts.specs.Counts.{occ, Counted}
 use Rattle.counts.proofs.Opens.{recount}
 use Rattle.counts.specs.Moves.{Move, State, state_of, run, writes, Laid}
-use Rattle.edit.specs.Plan.{shallow, page, node_of, kids, Stored, placed, links}
+use Rattle.edit.specs.Plan.{shallow, page, kids, Stored, placed, links}
 use Rattle.edit.specs.Able.{Open}
 use Rattle.edit.specs.Kept.{Free}
 use Rattle.edit.specs.Fill.{opens, below}
 use Rattle.edit.specs.Remove.{put2, rem_n, rem_moves}
-use Rattle.edit.proofs.States.{Same, same_by, run_append, laid_append, writes_append}
+use Rattle.edit.proofs.States.{same_by, run_append, laid_append, writes_append}
 use Rattle.edit.proofs.Downs.{kids_append, kids_le, placed_map, placed_keys}
 use Rattle.edit.proofs.Fills.{Opened, open_all}
 use Rattle.edit.proofs.Anyhow.{links_writes, place}
 use Rattle.edit.proofs.Removes.{remove_keeps}
 use Rattle.removal.specs.declared.filled.Filled.{Filled}
 use Rattle.removal.specs.Split.{Side, apart, merged, after, before, past, parts, rest_of, key_at, over_side, Split}
-use Rattle.removal.specs.Able.{Ready, Able, AbleIndex, Room, At, side_of, Filling, Made}
+use Rattle.removal.specs.Able.{Ready, Able, AbleIndex, Room, side_of, Filling, Made}
 use Rattle.removal.proofs.Splits.{splits}
 use Rattle.removal.proofs.Flat.{flat_parts, flat_past, every_inner}
 use Rattle.removal.proofs.Fillings.{len, entry}

@@ -1,5 +1,5 @@
 -- The page that link_parts answers, case by case; and what it writes has words.
-use Rattle.std.proofs.Common.{◌≡◌, ℕ, suc, ◌+◌, ◌<◌, ◌≤◌, List, [], ◌∷◌, ◌++◌, length, get_or, take, drop, sym, refl, ap, ◌∙◌, subst, ap₂, arith}
+use Rattle.std.proofs.Common.{◌≡◌, ℕ, suc, ◌+◌, ◌<◌, ◌≤◌, List, ◌∷◌, ◌++◌, get_or, take, drop, sym, ◌∙◌, subst, ap₂, arith}
 use Rattle.tree.specs.Node.{first, map_e}
 use Rattle.page.specs.Block.{Layout}
 use Rattle.page.specs.View.{view, entries}

@@ -1,19 +1,19 @@
 -- The removal on numbered blocks is that of the trees, its new blocks numbered by level; and what it writes are these numbers.
 use Rattle.std.proofs.Common.{◌≡◌, ℕ, zero, suc, ◌+◌, ◌*◌, ◌<◌, ◌≤◌, List, [], ◌∷◌, ◌++◌, map, length, get_or, take, drop, Some, None, Option, sym, refl, ap, ◌∙◌, ap₂, arith}
 use Rattle.tree.specs.Node.{del, first, map_e}
-use Rattle.tree.specs.Tree.{Pay, Tree, Span, Root, over, over_root, rem_e, rem_root, lower}
+use Rattle.tree.specs.Tree.{Pay, Tree, Span, over, rem_e, lower}
 use Rattle.tree.specs.Stored.{same}
 use Rattle.tree.specs.Numbered.{beside, numbers, numbered}
-use Rattle.tree.specs.Apart.{along, collect, its_place, places}
+use Rattle.tree.specs.Apart.{along, collect, its_place}
 use Rattle.tree.proofs.Over.{map_first}
-use Rattle.counts.specs.Counts.{one, occ}
+use Rattle.counts.specs.Counts.{occ}
 use Rattle.counts.specs.Moves.{Move, opening, linking}
 use Rattle.edit.specs.Plan.{shallow, placed, links}
 use Rattle.edit.specs.Fill.{opens}
-use Rattle.edit.specs.Remove.{put2, rem_n, rem_moves}
+use Rattle.edit.specs.Remove.{rem_n, rem_moves}
 use Rattle.edit.proofs.Downs.{map_same}
 use Rattle.edit.proofs.Traces.{linked}
-use Rattle.removal.specs.Split.{Side, apart, merged, after, before, past, parts, over_side, olds, news, key_at, Split}
+use Rattle.removal.specs.Split.{Side, apart, merged, after, before, past, parts, over_side, olds, news, key_at}
 use Rattle.removal.proofs.Splits.{splits}
 
 abbrev O : Type 0

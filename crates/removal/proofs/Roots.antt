@@ -1,5 +1,5 @@
 -- A whole tree with a row removed.
-use Rattle.std.proofs.Common.{◌≡◌, ℕ, zero, suc, ◌+◌, ◌-◌, ◌*◌, ◌<◌, ◌≤◌, List, [], ◌∷◌, ◌++◌, map, length, get_or, take, drop, Some, None, Option, sym, refl, ap, ◌∙◌, subst, ap₂, append-nil, arith}
+use Rattle.std.proofs.Common.{◌≡◌, ℕ, zero, suc, ◌+◌, ◌-◌, ◌*◌, ◌<◌, ◌≤◌, List, [], ◌∷◌, ◌++◌, map, length, get_or, Some, None, Option, sym, refl, ap, ◌∙◌, subst, ap₂, append-nil, arith}
 use Rattle.device.specs.Meaning.{Meaning, blocks_of, current_at}
 use Rattle.tree.specs.Node.{Every, map_e}
 use Rattle.tree.specs.Tree as tree
@@ -10,7 +10,7 @@ use Rattle.tree.proofs.Puts.{five_high}
 use Rattle.page.specs.Block.{Block, block_at, kids_of, Layout}
 use Rattle.page.specs.Slot.{Root}
 use Rattle.counts.specs.Counts.{one, occ, Counted, free_blocks}
-use Rattle.counts.specs.Moves.{Move, opening, linking, State, state_of, step, run, writes, Laid, Owned}
+use Rattle.counts.specs.Moves.{Move, opening, linking, State, state_of, step, run, writes}
 use Rattle.counts.proofs.Opens.{open_counted, recount}
 use Rattle.counts.proofs.Parents.{one_same}
 use Rattle.counts.proofs.Steps.{within}

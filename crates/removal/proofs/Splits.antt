@@ -1,7 +1,7 @@
 -- Every removal among the children of a block has a split.
-use Rattle.std.proofs.Common.{◌≡◌, ℕ, zero, suc, ◌+◌, ◌-◌, ◌*◌, ◌<◌, ◌≤◌, true, false, cond, eqb, ltb, List, [], ◌∷◌, ◌++◌, length, get_or, take, drop, Some, None, Option, sym, refl, ap, ◌∙◌, subst, ap₂, ⊎_elim, not-suc-le-zero, arith, length-append, length-drop, length-take}
+use Rattle.std.proofs.Common.{◌≡◌, ℕ, zero, suc, ◌+◌, ◌-◌, ◌*◌, ◌<◌, ◌≤◌, List, [], ◌∷◌, ◌++◌, length, get_or, take, drop, Some, None, Option, sym, refl, ap, ◌∙◌, ap₂, ⊎_elim, not-suc-le-zero, arith, length-append, length-drop, length-take}
 use Rattle.std.proofs.lemmas.Bool.{eq-eqb, ne_eqb, lt-ltb, le-ltb, cases_eq, cases_lt}
-use Rattle.tree.specs.Node.{first, at, shrink, touch, ready_right, ready_left, Seg, Every, map_e}
+use Rattle.tree.specs.Node.{first, at, shrink, touch, ready_right, ready_left, map_e}
 use Rattle.tree.specs.Tree.{Pay, Tree, Gap, Cell, Span, over}
 use Rattle.tree.specs.Stored.{same}
 use Rattle.tree.proofs.Over.{map-append, map_take, map_drop, map_length, map_first}
@@ -11,11 +11,11 @@ use Rattle.tree.proofs.Puts.{gap_trans, span_cut}
 use Rattle.tree.proofs.Removes.{cell_le}
 use Rattle.counts.specs.Moves.{Move}
 use Rattle.edit.specs.Plan.{Stored}
-use Rattle.edit.specs.Remove.{put2, edit_moves, alone_n, right_n, left_n, alone_m, right_m, left_m, shrink_n, shrink_m}
+use Rattle.edit.specs.Remove.{edit_moves, alone_n, right_n, left_n, alone_m, right_m, left_m, shrink_n, shrink_m}
 use Rattle.edit.proofs.Downs.{kids_append}
 use Rattle.edit.proofs.Removes.{kids_nil, halves}
 use Rattle.edit.proofs.Rems.{sep_right, sep_left}
-use Rattle.removal.specs.Split.{Side, apart, merged, after, before, past, parts, over_side, olds, news, key_at, Split}
+use Rattle.removal.specs.Split.{apart, merged, after, before, olds, Split}
 use Rattle.removal.proofs.Indexed.{Covers, covers, cut_one, cut_two, drop_one, take_one, drop_all, seg_pair, beside_right, beside_left, moves_right, moves_left, right_mapped, left_mapped}
 
 pub first_join : {X : Type 0} (us vs : List (ℕ × X)) → 0 < length us → first (us ++ vs) ≡ first us

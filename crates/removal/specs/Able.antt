@@ -1,5 +1,5 @@
 -- What a removal needs of a page in memory, and what it makes.
-use Rattle.std.specs.Prelude.{◌≡◌, ℕ, zero, suc, ◌+◌, ◌*◌, ◌<◌, ◌≤◌, List, [], ◌∷◌, length, slice_index_or}
+use Rattle.std.specs.Prelude.{◌≡◌, ℕ, suc, ◌+◌, ◌*◌, ◌<◌, ◌≤◌, List, length, slice_index_or}
 use Rattle.device.specs.Meaning.{Meaning}
 use Rattle.tree.specs.Node.{Every}
 use Rattle.tree.specs.Tree.{Pay, Tree, Span}

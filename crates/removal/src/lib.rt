@@ -174,7 +174,12 @@ fn remove_in<D: Device>(store: &mut Store<D>, grant: &mut Grant, page: &Page, sp
 }
 
 // Removes a speed from a tree: the tree that results is held in its place. A root with one child left gives way to it.
-pub fn remove_tree<D: Device>(store: &mut Store<D>, root: Root, speed: u32, mut grant: Grant) -> Root
+pub fn remove_tree<D: Device>(
+    store: &mut Store<D>,
+    root: Root,
+    speed: u32,
+    mut grant: Grant,
+) -> Root
     requires editable { Editable store.old.0 store.old.1 (root.height, root.block) }
     requires granted { Granted (2 * root.height + 1) store.old.0 store.old.1 grant }
     requires speed { speed < 10000 }

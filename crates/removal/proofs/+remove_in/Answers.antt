@@ -1,7 +1,7 @@
-use Rattle.std.proofs.Common.{◌≡◌, ℕ, suc, ◌+◌, ◌*◌, ◌<◌, ◌≤◌, List, length, get_or, drop, sym, ap, ◌∙◌, subst, arith, drop-drop}
-use Rattle.page.specs.View.{view, entries}
+use Rattle.std.proofs.Common.{◌≡◌, ℕ, suc, ◌+◌, ◌*◌, ◌<◌, drop, sym, ap, ◌∙◌, subst, arith, drop-drop}
+use Rattle.page.specs.View.{view}
 use Rattle.page.proofs.Pages.{entries_length}
-use Rattle.removal.specs.Able.{Ready, AbleIndex, Room, Whole, Filling, Made}
+use Rattle.removal.specs.Able.{AbleIndex, Room, Whole, Filling, Made}
 use Rattle.removal.proofs.Fillings.{two}
 use Rattle.removal.proofs.Linking.{parts_laid}
 use Rattle.removal.proofs.Levels.{Linkable, leaf_made, index_able, index_made, level_is, part_ready, part_level, part_room, made_level, linkable, within, up}

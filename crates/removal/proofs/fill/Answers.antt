@@ -1,5 +1,5 @@
-use Rattle.std.proofs.Common.{◌≡◌, ℕ, suc, ◌-◌, ◌<◌, ◌≤◌, length, sym, ap, ◌∙◌, subst, arith}
-use Rattle.page.specs.View.{view, entries}
+use Rattle.std.proofs.Common.{subst, arith}
+use Rattle.page.specs.View.{view}
 use Rattle.page.proofs.Pages.{entries_length}
 use Rattle.removal.specs.Able.{At}
 use Rattle.removal.proofs.Fillings.{two}

@@ -1,13 +1,10 @@
-use Rattle.std.proofs.Common.{◌≡◌, ℕ, suc, ◌+◌, ◌-◌, ◌<◌, ◌≤◌, List, [], ◌∷◌, ◌++◌, map, length, get_or, take, drop, Some, sym, refl, ap, ◌∙◌, subst, add-one, arith}
-use Rattle.std.specs.Option.{is_some}
-use Rattle.device.specs.Meaning.{Meaning}
-use Rattle.tree.specs.Tree.{Tree}
-use Rattle.page.specs.Block.{Block, block_at}
+use Rattle.std.proofs.Common.{◌≡◌, ℕ, suc, ◌+◌, ◌<◌, ◌≤◌, List, map, length, get_or, Some, sym, refl, ap, ◌∙◌, subst, add-one, arith}
+use Rattle.page.specs.Block.{block_at}
 use Rattle.page.specs.View.{pair, view, entries}
 use Rattle.page.proofs.Pages.{entries_length}
-use Rattle.counts.specs.Moves.{State, opening, step, state_of, Owned}
-use Rattle.removal.specs.Able.{Ready, At}
-use Rattle.removal.proofs.Fillings.{len, still_back, fill_apart, fill_left_merged, fill_left_moved, entry_read, owned_at, owned_after, seven, there_is, same_length}
+use Rattle.counts.specs.Moves.{State, opening, step, Owned}
+use Rattle.removal.specs.Able.{At}
+use Rattle.removal.proofs.Fillings.{len, fill_apart, fill_left_merged, fill_left_moved, entry_read, owned_at, owned_after, seven, there_is, same_length}
 use Rattle.removal.proofs.Splicing.{at_end, at_start, last_is, but_last}
 use Rattle.removal.proofs.fill_left.Given.{Over}
 use Rattle.removal.proofs.fill_left.Goals.{After-read_page, After-open-before, After-open-child}

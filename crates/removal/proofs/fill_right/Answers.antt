@@ -1,10 +1,7 @@
-use Rattle.std.proofs.Common.{◌≡◌, ℕ, suc, ◌+◌, ◌<◌, ◌≤◌, List, [], ◌∷◌, ◌++◌, map, length, get_or, take, drop, Some, sym, refl, ap, ◌∙◌, add-one, arith}
-use Rattle.tree.specs.Tree.{Tree}
+use Rattle.std.proofs.Common.{◌≡◌, ℕ, suc, ◌+◌, ◌<◌, ◌≤◌, List, map, length, get_or, Some, refl, ap, ◌∙◌, add-one, arith}
 use Rattle.page.specs.Block.{block_at}
 use Rattle.page.specs.View.{pair, view, entries}
 use Rattle.page.proofs.Pages.{entries_length}
-use Rattle.counts.specs.Moves.{State}
-use Rattle.removal.specs.Able.{Ready}
 use Rattle.removal.proofs.Fillings.{len, still_back, fill_apart, fill_right_merged, fill_right_moved, entry_read, owned_at, owned_after, seven}
 use Rattle.removal.proofs.Splicing.{at_end, first_is, but_first}
 use Rattle.removal.proofs.fill_right.Given.{Over}

@@ -1,8 +1,6 @@
-use Rattle.std.proofs.Common.{◌≡◌, ℕ, suc, ◌+◌, ◌*◌, ◌<◌, List, [], ◌∷◌, length, get_or, drop, sym, refl, ap, ◌∙◌, arith, length-drop}
+use Rattle.std.proofs.Common.{◌≡◌, ℕ, ◌*◌, ◌<◌, List, ◌∷◌, length, get_or, sym, refl, ap, ◌∙◌, arith, length-drop}
 use Rattle.device.specs.Meaning.{current_at}
 use Rattle.page.specs.View.{view, entries}
-use Rattle.page.specs.declared.page.Page.{Page}
-use Rattle.page.specs.declared.page.Entry.{Entry}
 use Rattle.page.proofs.Pages.{entries_length}
 use Rattle.model.specs.TreeBlocks.{Tree, tree_at}
 use Rattle.edit.proofs.Laying.{laid_out}
@@ -73,7 +71,7 @@ take-block-requires g c =
 module _ (g : Over) (c : After-take-block g) where
   more : 0 < c.remove_in-made.result.level → length (entries c.remove_in-made.result) ≡ 1 → ⊥
   more h n = elim c.else-made-gt0.branch [
-    else-made-gt0-via-then-made-gt0+else-len-eq1 w ↦ w.if-len-eq1.false (w.len.ensures.value ∙ sym (entries_length c.remove_in-made.result) ∙ n)
+    | else-made-gt0-via-then-made-gt0+else-len-eq1 w ↦ w.if-len-eq1.false (w.len.ensures.value ∙ sym (entries_length c.remove_in-made.result) ∙ n)
     | else-made-gt0-via-else-made-gt0 w ↦ absurd (omega (arith, w.if-made-gt0.false, h))
   ]
 
