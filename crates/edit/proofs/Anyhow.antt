@@ -16,7 +16,7 @@ use Rattle.edit.proofs.Downs.{Covers, owned, key_is, number_is, child_node, part
 use Rattle.edit.proofs.Keeps.{keeps}
 
 -- at most two writes a level
-links_writes : {X : Type 0} (l : ℕ) (f : X → List (ℕ × ℕ)) (x y : ℕ) (ps : List (ℕ × X)) → writes (links l (map_e (λ c. (c.0, f c.1)) (placed x y ps))) ≡ length ps
+pub links_writes : {X : Type 0} (l : ℕ) (f : X → List (ℕ × ℕ)) (x y : ℕ) (ps : List (ℕ × X)) → writes (links l (map_e (λ c. (c.0, f c.1)) (placed x y ps))) ≡ length ps
 links_writes l f x y [] = refl
 links_writes l f x y (e ∷ r) = ap suc (links_writes l f y y r)
 

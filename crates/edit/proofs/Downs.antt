@@ -32,7 +32,7 @@ module _ {X Y : Type 0} (f : X → Y) (s : ℕ) where
       rw (map_length f es, ← map_drop f 7 es, ← map_take f 7 es, map_first f (drop 7 es))
       (sym (cond_map (map_e (map_e f)) (eqb (length es) 15) _ _ _ _ (cond_map (map_e (map_e f)) (ltb s (first (drop 7 es))) _ _ _ _ refl refl) refl))
 
-map_same : {X : Type 0} (xs : List (ℕ × X)) → xs ≡ map_e (λ x. x) xs
+pub map_same : {X : Type 0} (xs : List (ℕ × X)) → xs ≡ map_e (λ x. x) xs
 map_same [] = refl
 map_same {X} (e ∷ r) = ap (λ (z : List (ℕ × X)). e ∷ z) (map_same r)
 
@@ -45,11 +45,11 @@ parted_shallow s zero k es made = map_same (parted s k es made)
 parted_shallow s (suc l) k es made = parted_map (λ (c : Tree ℕ ℕ l). c.0) s k es made
 
 module _ {X Y : Type 0} (F : X → Y) where
-  placed_map : (x y : ℕ) (ps : List (ℕ × X)) → placed x y (map_e F ps) ≡ map_e (λ c. (c.0, F c.1)) (placed x y ps)
+  pub placed_map : (x y : ℕ) (ps : List (ℕ × X)) → placed x y (map_e F ps) ≡ map_e (λ c. (c.0, F c.1)) (placed x y ps)
   placed_map x y [] = refl
   placed_map x y (e ∷ r) = ap (λ (z : List (ℕ × (ℕ × Y))). (e.0, (x, F e.1)) ∷ z) (placed_map y y r)
 
-  placed_keys : (x y : ℕ) (ps : List (ℕ × X)) → map_e (λ c. c.0) (placed x y (map_e F ps)) ≡ map_e (λ c. c.0) (placed x y ps)
+  pub placed_keys : (x y : ℕ) (ps : List (ℕ × X)) → map_e (λ c. c.0) (placed x y (map_e F ps)) ≡ map_e (λ c. c.0) (placed x y ps)
   placed_keys x y [] = refl
   placed_keys x y (e ∷ r) = ap (λ (z : List (ℕ × ℕ)). (e.0, x) ∷ z) (placed_keys y y r)
 
@@ -75,7 +75,7 @@ kids_le b (suc l) (x ∷ xs) = omega (arith, one_le x.1.0 b, kids_le b (suc l) x
         go true = omega arith
         go false = omega arith
 
-kids_around : (b l : ℕ) (es : List (ℕ × Tree ℕ ℕ l)) (i : ℕ) (d : ℕ × Tree ℕ ℕ l) → i < length es → occ b (kids (suc l) es) ≡ one (get_or es i d).1.0 b + (occ b (kids (suc l) (take i es)) + occ b (kids (suc l) (drop (suc i) es)))
+pub kids_around : (b l : ℕ) (es : List (ℕ × Tree ℕ ℕ l)) (i : ℕ) (d : ℕ × Tree ℕ ℕ l) → i < length es → occ b (kids (suc l) es) ≡ one (get_or es i d).1.0 b + (occ b (kids (suc l) (take i es)) + occ b (kids (suc l) (drop (suc i) es)))
 kids_around b l [] i d h = absurd (not-suc-le-zero h)
 kids_around b l (e ∷ r) zero d h = omega arith
 kids_around b l (e ∷ r) (suc i) d h = omega (arith, kids_around b l r i d (omega arith))

@@ -97,11 +97,11 @@ each_by : (N : ℕ → Type 0) (xs : List ℕ) → ((i : ℕ) → i < length xs 
 each_by N [] h = tt
 each_by N (x ∷ xs) h = (h 0 (omega arith), each_by N xs (λ i lt. h (suc i) (omega arith)))
 
-frees_inside : (m : Meaning) (cs : List ℕ) → Counting m cs → Each (λ x. (2 ≤ x) × (x < blocks_of m)) (free_blocks cs)
+pub frees_inside : (m : Meaning) (cs : List ℕ) → Counting m cs → Each (λ x. (2 ≤ x) × (x < blocks_of m)) (free_blocks cs)
 frees_inside m cs C =
     each_by (λ x. (2 ≤ x) × (x < blocks_of m)) (free_blocks cs) (λ i lt. let q = spare_at (length cs - 2) 2 cs i lt in (q.0, omega (arith, q.0, q.1, C.sized)))
 
-good_after : (d : Change ℕ) (t : Tree) (m : Meaning) (cs : List ℕ) (m' : Meaning) (cs' : List ℕ) (r : Root) → r ≡ root_of (changed_on ℕ d (free_blocks cs) t) → Edited d t m cs m' cs' → Fit (blocks_of m) (changed_on ℕ d (free_blocks cs) t)
+pub good_after : (d : Change ℕ) (t : Tree) (m : Meaning) (cs : List ℕ) (m' : Meaning) (cs' : List ℕ) (r : Root) → r ≡ root_of (changed_on ℕ d (free_blocks cs) t) → Edited d t m cs m' cs' → Fit (blocks_of m) (changed_on ℕ d (free_blocks cs) t)
     → Good (blocks_of m') (current_at m') r
 good_after d t m cs m' cs' r e E F =
     let u : Tree = changed_on ℕ d (free_blocks cs) t in

@@ -16,13 +16,13 @@ use Rattle.edit.proofs.Downs.{kids_append}
 use Rattle.edit.proofs.Keeps.{Good, frame, same_live, free_open, laid_parts}
 
 -- all of them opened: the device is the same, free blocks stay free, and references to what was below are in hand
-record Opened (gs : List ℕ) (N l : ℕ) (mid : List (ℕ × Tree ℕ ℕ l)) (h : ℕ → ℕ) (q q' : State) : Type 0 where
-  device : q'.0 ≡ q.0
-  counted : Counted (block_at q.0) q'.1 (λ b. below l mid b + h b)
-  free : Free q.0 q'.1 gs N
-  stays : (b : ℕ) → get_or q.1 b 0 ≡ 0 → get_or q'.1 b 0 ≡ 0
+pub record Opened (gs : List ℕ) (N l : ℕ) (mid : List (ℕ × Tree ℕ ℕ l)) (h : ℕ → ℕ) (q q' : State) : Type 0 where
+  pub device : q'.0 ≡ q.0
+  pub counted : Counted (block_at q.0) q'.1 (λ b. below l mid b + h b)
+  pub free : Free q.0 q'.1 gs N
+  pub stays : (b : ℕ) → get_or q.1 b 0 ≡ 0 → get_or q'.1 b 0 ≡ 0
 
-open_all : (gs : List ℕ) (N l : ℕ) (mid : List (ℕ × Tree ℕ ℕ l)) (h : ℕ → ℕ) (q : State) → Every (Stored (block_at q.0) (suc l)) mid → Counted (block_at q.0) q.1 (λ b. occ b (kids (suc l) mid) + h b) → Free q.0 q.1 gs N
+pub open_all : (gs : List ℕ) (N l : ℕ) (mid : List (ℕ × Tree ℕ ℕ l)) (h : ℕ → ℕ) (q : State) → Every (Stored (block_at q.0) (suc l)) mid → Counted (block_at q.0) q.1 (λ b. occ b (kids (suc l) mid) + h b) → Free q.0 q.1 gs N
     → Opened gs N l mid h q (run (opens mid) q)
 open_all gs N l [] h q st c f = record { device = refl; counted = c; free = f; stays = λ b z. z }
 open_all gs N l (e ∷ r) h q st c f =

@@ -15,11 +15,11 @@ use Rattle.edit.proofs.Downs.{kids_append}
 use Rattle.edit.proofs.Keeps.{good_one, good_two, kept_refl, frame, same_live}
 use Rattle.edit.proofs.Fills.{replaced, among}
 
-kids_nil : (b l : ℕ) → occ b (kids l []) ≡ 0
+pub kids_nil : (b l : ℕ) → occ b (kids l []) ≡ 0
 kids_nil b zero = refl
 kids_nil b (suc l) = refl
 
-halves : (b l n : ℕ) (es : List (ℕ × Pay ℕ ℕ l)) → occ b (kids l es) ≡ occ b (kids l (take n es)) + occ b (kids l (drop n es))
+pub halves : (b l n : ℕ) (es : List (ℕ × Pay ℕ ℕ l)) → occ b (kids l es) ≡ occ b (kids l (take n es)) + occ b (kids l (drop n es))
 halves b l n es = ap (λ (z : List (ℕ × Pay ℕ ℕ l)). occ b (kids l z)) (sym (take-append-drop n es)) ∙ kids_append b l (take n es) (drop n es)
 
 module _ (gs : List ℕ) (s N l : ℕ) (g : List (ℕ × Pay ℕ ℕ l) → List (ℕ × Pay ℕ ℕ l)) (ms : List (ℕ × Pay ℕ ℕ l) → List Move)

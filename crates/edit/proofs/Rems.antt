@@ -107,10 +107,10 @@ module _ (l k j hi : ℕ) (xs ys : List (ℕ × Pay ℕ ℕ l)) (p : Span ℕ �
       go true false = let n = length xs - 1 in (first (drop n xs), hi, J (first (drop n xs)) j hi (drop n xs) ys (span_cut ℕ ℕ l k j n xs (omega arith) p).1 q)
       go false u = (j, hi, q)
 
-  sep_right : (s : ℕ) → s < j → s < first (drop 1 ys)
+  pub sep_right : (s : ℕ) → s < j → s < first (drop 1 ys)
   sep_right s h = omega (arith, le j (first (drop 1 ys)) (take 1 ys) (span_cut ℕ ℕ l j hi 1 ys (omega arith) q).0)
 
-  sep_left : (s : ℕ) → j ≤ s → first (drop (length xs - 1) xs) ≤ s
+  pub sep_left : (s : ℕ) → j ≤ s → first (drop (length xs - 1) xs) ≤ s
   sep_left s h = let n = length xs - 1 in omega (arith, le (first (drop n xs)) j (drop n xs) (span_cut ℕ ℕ l k j n xs (omega arith) p).1)
 
 pub removes : Removes

@@ -29,7 +29,7 @@ pub fn remove_stands()
 {}
 
 // Writes two pages to two free blocks.
-fn link_two<D: Device>(store: &mut Store<D>, left: u32, right: u32, lower: &Page, upper: &Page)
+pub fn link_two<D: Device>(store: &mut Store<D>, left: u32, right: u32, lower: &Page, upper: &Page)
     requires on { (left < blocks_of store.old.0) × (right < blocks_of store.old.0) }
     requires free { (slice_index store.old.1 left ≡ 0) × (slice_index store.old.1 right ≡ 0) }
     requires apart { left ≢ right }

@@ -1,0 +1,95 @@
+-- What a removal needs of a page in memory, and what it makes.
+use Rattle.std.specs.Prelude.{◌≡◌, ℕ, suc, ◌+◌, ◌*◌, ◌<◌, ◌≤◌, List, length, slice_index_or}
+use Rattle.device.specs.Meaning.{Meaning}
+use Rattle.tree.specs.Node.{Every}
+use Rattle.tree.specs.Tree.{Pay, Tree, Span}
+use Rattle.page.specs.Block.{Block, block_at}
+use Rattle.page.specs.Io.{Wide}
+use Rattle.page.specs.View.{view, entries}
+use Rattle.page.specs.declared.page.Page.{Page}
+use Rattle.counts.specs.Counts.{occ, Counted}
+use Rattle.counts.specs.Moves.{run, Laid}
+use Rattle.edit.specs.Plan.{shallow, node_of, kids, Stored}
+use Rattle.edit.specs.Kept.{Free}
+use Rattle.edit.specs.Fill.{opens}
+use Rattle.edit.specs.Remove.{rem_n, rem_moves}
+use Rattle.removal.specs.declared.filled.Neighbour.{Neighbour}
+use Rattle.removal.specs.declared.filled.Neighbour.TheVariants.{Apart, Merged, After, Before}
+use Rattle.removal.specs.declared.filled.Filled.{Filled}
+use Rattle.removal.specs.Split.{Side, apart, merged, after, before, past, parts, over_side, Split}
+
+-- The page n holds the entries es of level l, which cover speed s; their children are in the store and referred to.
+pub record Ready (m : Meaning) (cs : List ℕ) (n : Block) (s l : ℕ) (es : List (ℕ × Pay ℕ ℕ l)) : Type 0 where
+  pub is : n ≡ node_of l es
+  pub stored : Every (Stored (block_at m) l) es
+  pub lo : ℕ
+  pub hi : ℕ
+  pub span : Span ℕ ℕ l lo hi es
+  pub low : lo ≤ s
+  pub high : s < hi
+  pub few : length es ≤ 15
+  pub enough : 0 < l → 2 ≤ length es
+  pub others : ℕ → ℕ
+  pub counted : Counted (block_at m) cs (λ b. occ b (kids l es) + others b)
+  pub modest : (b : ℕ) → others b + 32 * l ≤ 2000
+  pub size : length cs ≤ 4096
+  pub wide : Wide m
+
+pub record Able (m : Meaning) (cs : List ℕ) (n : Block) (s : ℕ) : Type 0 where
+  pub l : ℕ
+  pub es : List (ℕ × Pay ℕ ℕ l)
+  pub ready : Ready m cs n s l es
+
+-- the same of an index block
+pub record AbleIndex (m : Meaning) (cs : List ℕ) (n : Block) (s : ℕ) : Type 0 where
+  pub l : ℕ
+  pub es : List (ℕ × Tree ℕ ℕ l)
+  pub ready : Ready m cs n s (suc l) es
+
+-- the first 2l places of the grant gs are free, and so many writes are left
+pub record Room (m : Meaning) (cs gs : List ℕ) (l : ℕ) : Type 0 where
+  pub left : 2 * l ≤ m.left
+  pub free : Free m cs gs (2 * l)
+
+-- i is the place of the entry that covers s
+pub record At (n : Block) (s i : ℕ) : Type 0 where
+  pub within : i < length n.entries
+  pub low : (k : ℕ) → k < i → (slice_index_or n.entries (suc k) (0, 0)).0 ≤ s
+  pub high : suc i < length n.entries → s < (slice_index_or n.entries (suc i) (0, 0)).0
+
+-- the neighbour in memory
+abbrev pub side_of : Neighbour → Side ℕ
+side_of Apart = apart
+side_of Merged = merged
+side_of (After p) = after (entries p)
+side_of (Before p) = before (entries p)
+
+-- what is left of the neighbour has level l, and what gives the right part its separator is not empty
+abbrev pub Whole : ℕ → Page → Neighbour → Type 0
+Whole l part Apart = Unit {0}
+Whole l part Merged = Unit {0}
+Whole l part (After p) = (p.level ≡ l) × (0 < length p.entries.items)
+Whole l part (Before p) = (p.level ≡ l) × (0 < length part.entries.items)
+
+-- the parts that stand for a filled child, once made is the part's page
+abbrev pub parts_of : Page → Filled → Page → List (ℕ × List (ℕ × ℕ))
+parts_of p f made = parts (slice_index_or (entries p) f.at (0, 0)).0 (side_of f.neighbour) (entries f.part) (entries made)
+
+-- the place after the children that they replace
+abbrev pub end_of : Filled → ℕ
+end_of f = past f.at (side_of f.neighbour)
+
+-- f is the split of the children es, which are opened.
+pub record Filling (m : Meaning) (cs : List ℕ) (m' : Meaning) (cs' : List ℕ) (s l : ℕ) (es : List (ℕ × Tree ℕ ℕ l)) (f : Filled) : Type 0 where
+  pub split : Split s l es
+  pub at : f.at ≡ split.at
+  pub part : view f.part ≡ node_of l split.work
+  pub side : side_of f.neighbour ≡ over_side (shallow l) split.side
+  pub whole : Whole l f.part f.neighbour
+  pub state : (m', cs') ≡ run (opens split.mid) (m, cs)
+
+-- r is the page with speed s removed below it: its altered children are written and linked.
+pub record Made (m : Meaning) (cs : List ℕ) (m' : Meaning) (cs' gs : List ℕ) (s l : ℕ) (es : List (ℕ × Pay ℕ ℕ l)) (r : Block) : Type 0 where
+  pub is : r ≡ node_of l (rem_n gs s l es)
+  pub state : (m', cs') ≡ run (rem_moves gs s l es) (m, cs)
+  pub laid : Laid m.width (rem_moves gs s l es)

@@ -1,0 +1,23 @@
+// A child that can lose an entry, in memory.
+use page::page::Page;
+
+// What became of the child's neighbour.
+#[derive(Drop)]
+pub enum Neighbour {
+    // It was not needed.
+    Apart,
+    // Its entries stand in the part.
+    Merged,
+    // It gave its first entry, and stands after the part with the rest.
+    After(Page),
+    // It gave its last entry, and stands before the part with the rest.
+    Before(Page),
+}
+
+// The removal goes on in `part`, which replaces the child at `at` of the page, or the two from there on.
+#[derive(Drop)]
+pub struct Filled {
+    pub at: usize,
+    pub part: Page,
+    pub neighbour: Neighbour,
+}

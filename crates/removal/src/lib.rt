@@ -1,0 +1,208 @@
+// A row removed from a tree on counted blocks.
+#![tactic(auto)]
+
+ghost use Rattle.std.specs.Prelude.{◌≡◌, ℕ, suc, ◌+◌, ◌*◌, ◌<◌, ◌≤◌, List, ◌++◌, length, take, drop, slice_index};
+ghost use Rattle.device.specs.Meaning.{blocks_of, current_at};
+ghost use Rattle.tree.specs.Node.{map_e};
+ghost use Rattle.tree.specs.Tree.{Pay, Tree};
+ghost use Rattle.page.specs.View.{view, entries};
+ghost use Rattle.counts.specs.Counts.{free_blocks};
+ghost use Rattle.counts.specs.Moves.{run};
+ghost use Rattle.model.specs.TreeBlocks.{Change.takes, changed_on, tree_at, root_of, Good};
+ghost use Rattle.edit.specs.Plan.{placed, links};
+ghost use Rattle.edit.specs.Able.{Open};
+ghost use Rattle.edit.specs.Edited.{Editable, Granted, Edited};
+ghost use Rattle.removal.specs.Able.{Ready, Able, AbleIndex, Room, At, Whole, parts_of, end_of, Filling, Made};
+
+mod filled;
+
+use counts::{Grant, Store};
+use device::Device;
+use edit::link_two;
+use filled::{Filled, Neighbour};
+use page::page::{Entry, Page};
+use page::roots::Root;
+
+// How many entries a block has at least, save a root.
+const FEWEST: usize = 7;
+
+// The child at i opened, with one entry more than it must have: a short one takes from its right neighbour.
+fn fill_right<D: Device>(store: &mut Store<D>, page: &Page, i: usize, speed: u32) -> Filled
+    requires able { AbleIndex store.old.0 store.old.1 (view page.now) speed }
+    requires at { At (view page.now) speed i }
+    requires more { suc i < length page.now.entries.items }
+    ensures { (l : ℕ) (es : List (ℕ × Tree ℕ ℕ l)) → Ready store.old.0 store.old.1 (view page.now) speed (suc l) es → Filling store.old.0 store.old.1 store.new.0 store.new.1 speed l es result }
+{
+    let child = store.open(page.entries[i].value);
+    if child.entries.len() != FEWEST {
+        return Filled {
+            at: i,
+            part: child,
+            neighbour: Neighbour::Apart,
+        };
+    }
+    let after = store.open(page.entries[i + 1].value);
+    if after.entries.len() == FEWEST {
+        return Filled {
+            at: i,
+            part: child.spliced(FEWEST..FEWEST, &after.entries),
+            neighbour: Neighbour::Merged,
+        };
+    }
+    Filled {
+        at: i,
+        part: child.spliced(FEWEST..FEWEST, &[after.entries[0]]),
+        neighbour: Neighbour::After(after.part(1..after.entries.len())),
+    }
+}
+
+// The same of the last child, which takes from its left neighbour, at i.
+fn fill_left<D: Device>(store: &mut Store<D>, page: &Page, i: usize, speed: u32) -> Filled
+    requires able { AbleIndex store.old.0 store.old.1 (view page.now) speed }
+    requires at { At (view page.now) speed (suc i) }
+    requires last { length page.now.entries.items ≡ suc (suc i) }
+    ensures { (l : ℕ) (es : List (ℕ × Tree ℕ ℕ l)) → Ready store.old.0 store.old.1 (view page.now) speed (suc l) es → Filling store.old.0 store.old.1 store.new.0 store.new.1 speed l es result }
+{
+    let last = page.entries[i + 1].value;
+    if store.read_page(last).entries.len() != FEWEST {
+        return Filled {
+            at: i + 1,
+            part: store.open(last),
+            neighbour: Neighbour::Apart,
+        };
+    }
+    let before = store.open(page.entries[i].value);
+    let child = store.open(last);
+    let len = before.entries.len();
+    if len == FEWEST {
+        return Filled {
+            at: i,
+            part: before.spliced(FEWEST..FEWEST, &child.entries),
+            neighbour: Neighbour::Merged,
+        };
+    }
+    Filled {
+        at: i,
+        part: child.spliced(0..0, &[before.entries[len - 1]]),
+        neighbour: Neighbour::Before(before.part(0..len - 1)),
+    }
+}
+
+// The child at i filled.
+fn fill<D: Device>(store: &mut Store<D>, page: &Page, i: usize, speed: u32) -> Filled
+    requires able { AbleIndex store.old.0 store.old.1 (view page.now) speed }
+    requires at { At (view page.now) speed i }
+    ensures { (l : ℕ) (es : List (ℕ × Tree ℕ ℕ l)) → Ready store.old.0 store.old.1 (view page.now) speed (suc l) es → Filling store.old.0 store.old.1 store.new.0 store.new.1 speed l es result }
+{
+    if i + 1 < page.entries.len() {
+        fill_right(store, page, i, speed)
+    } else {
+        fill_left(store, page, i - 1, speed)
+    }
+}
+
+// Writes the parts of a filled child, once `made` stands for the part, to the next places of the grant; answers the page with them.
+fn link_parts<D: Device>(
+    store: &mut Store<D>,
+    grant: &mut Grant,
+    page: &Page,
+    filled: &Filled,
+    made: &Page,
+) -> Page
+    requires places { Open store.old.0 store.old.1 grant.old 0 }
+    requires two { 2 ≤ length grant.old }
+    requires left { 2 ≤ store.old.0.left }
+    requires few { length store.old.1 ≤ 4096 }
+    requires level { made.now.level < 5 }
+    requires whole { Whole made.now.level filled.now.part filled.now.neighbour }
+    requires within { end_of filled.now ≤ length page.now.entries.items }
+    ensures level { result.level ≡ page.now.level }
+    ensures these { entries result ≡ take filled.now.at (entries page.now) ++ (map_e (λ c. c.0) (placed (slice_index grant.old 0) (slice_index grant.old 1) (parts_of page.now filled.now made.now)) ++ drop (end_of filled.now) (entries page.now)) }
+    ensures state { store.new ≡ run (links made.now.level (placed (slice_index grant.old 0) (slice_index grant.old 1) (parts_of page.now filled.now made.now))) store.old }
+    ensures grant { grant.new ≡ drop 2 grant.old }
+{
+    let at = filled.at;
+    let left = Entry {
+        speed: page.entries[at].speed,
+        value: grant.take(),
+    };
+    match &filled.neighbour {
+        Neighbour::Apart => {
+            grant.give_back();
+            store.link(left.value, made);
+            page.spliced(at..at + 1, &[left])
+        },
+        Neighbour::Merged => {
+            grant.give_back();
+            store.link(left.value, made);
+            page.spliced(at..at + 2, &[left])
+        },
+        Neighbour::After(rest) => {
+            let right = Entry {
+                speed: rest.first_speed(),
+                value: grant.take(),
+            };
+            link_two(store, left.value, right.value, made, rest);
+            page.spliced(at..at + 2, &[left, right])
+        },
+        Neighbour::Before(rest) => {
+            let right = Entry {
+                speed: filled.part.first_speed(),
+                value: grant.take(),
+            };
+            link_two(store, left.value, right.value, rest, made);
+            page.spliced(at..at + 2, &[left, right])
+        },
+    }
+}
+
+// The page with a speed removed below it: its altered children are written and linked, the page itself is not.
+fn remove_in<D: Device>(store: &mut Store<D>, grant: &mut Grant, page: &Page, speed: u32) -> Page
+    requires able { Able store.old.0 store.old.1 (view page.now) speed }
+    requires room { Room store.old.0 store.old.1 grant.old page.now.level }
+    requires enough { 2 * page.now.level ≤ length grant.old }
+    ensures made { (l : ℕ) (es : List (ℕ × Pay ℕ ℕ l)) → Ready store.old.0 store.old.1 (view page.now) speed l es → Made store.old.0 store.old.1 store.new.0 store.new.1 grant.old speed l es (view result) }
+    ensures grant { grant.new ≡ drop (2 * page.now.level) grant.old }
+{
+    if page.level == 0 {
+        return page.without_row(speed);
+    }
+    let i = page.covering(speed);
+    let filled = fill(store, page, i, speed);
+    let made = remove_in(store, grant, &filled.part, speed);
+    link_parts(store, grant, page, &filled, &made)
+}
+
+// Removes a speed from a tree: the tree that results is held in its place. A root with one child left gives way to it.
+pub fn remove_tree<D: Device>(
+    store: &mut Store<D>,
+    root: Root,
+    speed: u32,
+    mut grant: Grant,
+) -> Root
+    requires editable { Editable store.old.0 store.old.1 (root.height, root.block) }
+    requires granted { Granted (2 * root.height + 1) store.old.0 store.old.1 grant }
+    requires speed { speed < 10000 }
+    ensures root { (result.height, result.block) ≡ root_of (changed_on ℕ (takes speed) (free_blocks store.old.1) (tree_at (current_at store.old.0) (root.height, root.block))) }
+    ensures edited { Edited (takes speed) (tree_at (current_at store.old.0) (root.height, root.block)) store.old.0 store.old.1 store.new.0 store.new.1 }
+    ensures good { Good (blocks_of store.new.0) (current_at store.new.0) (result.height, result.block) }
+{
+    let page = store.open(root.block);
+    let made = remove_in(store, &mut grant, &page, speed);
+    if made.level > 0 && made.entries.len() == 1 {
+        grant.give_back_all();
+        grant.end();
+        return Root {
+            height: root.height - 1,
+            block: made.entries[0].value,
+        };
+    }
+    let block = grant.take();
+    grant.give_back_all();
+    grant.end();
+    store.link(block, &made);
+    Root {
+        height: root.height,
+        block,
+    }
+}
