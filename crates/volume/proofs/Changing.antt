@@ -14,7 +14,7 @@ use Rattle.tree.proofs.Puts.{five_high}
 use Rattle.tree.proofs.Laid.{same_rule}
 use Rattle.table.specs.Rows.{payload_of}
 use Rattle.model.specs.Plain.{first, place}
-use Rattle.model.specs.TreeBlocks.{Tree, Change, Change.begin, Change.puts, changed_on, new_blocks, bare_tree, root_of, tree_at, top_level, raw, elem, Each, Good, AllGood, Stored}
+use Rattle.model.specs.TreeBlocks.{Tree, Change, Change.begin, Change.puts, Change.takes, changed_on, new_blocks, bare_tree, root_of, tree_at, top_level, raw, elem, Each, Good, AllGood, Stored}
 use Rattle.model.specs.Model.{used, free, height, needs, source, tree_of, new_tree}
 use Rattle.model.specs.World.{Tables, Mode.mounted, placed, model_of, shape, trees, FreeWrite, Changed, sizes}
 use Rattle.model.specs.Reach.{rootings}
@@ -187,3 +187,20 @@ module _ (t : Tables) (m : Meaning) (cs : List ℕ) (S : Kept t (m, cs)) (n : �
     trace = E.trace;
     effect = changed_there t m cs S n h begin (vacant t m cs S n h none) m' cs' r' E e G;
   }
+
+  -- a row is taken out of a clone's tree
+  pub take_there : (r : Root) → place t.working n ≡ Some r → (s : ℕ) (m' : Meaning) (cs' : List ℕ) (r' : Root)
+      → Edited (takes s) (tree_at (current_at m) r) m cs m' cs' → r' ≡ root_of (changed_on ℕ (takes s) (free_blocks cs) (tree_at (current_at m) r)) → Good (blocks_of m') (current_at m') r'
+      → There t m n (takes s) r' m' cs'
+  take_there r at s m' cs' r' E e G =
+      let is : tree_at (current_at m) r ≡ source (model_of t m) n (takes s) = sym (tree_at_lem t m cs S n r at) in
+      let E' : Edited (takes s) (source (model_of t m) n (takes s)) m cs m' cs' = subst (λ x. Edited (takes s) x m cs m' cs') is E in
+      let e' : r' ≡ root_of (changed_on ℕ (takes s) (free_blocks cs) (source (model_of t m) n (takes s))) = e ∙ ap (λ x. root_of (changed_on ℕ (takes s) (free_blocks cs) x)) is in
+      let old : (b : ℕ) → rootings t b ≡ given_up (takes s) (source (model_of t m) n (takes s)) b + others t n b
+      = λ b. split_here t m cs S n r at h b ∙ ap (λ (y : ℕ). one y b + others t n b) (sym (root_block (current_at m) r) ∙ ap (λ (x : Tree). x.1.0) is) in
+      record {
+        kept = sound_there t m cs S n h (takes s) old m' cs' r' E' e' G;
+        os = E'.os;
+        trace = E'.trace;
+        effect = changed_there t m cs S n h (takes s) old m' cs' r' E' e' G;
+      }

@@ -4,3 +4,4 @@ pub mod Clones
 pub mod Calls
 pub mod Changing
 pub mod Reading
+pub mod Removing

@@ -2,7 +2,7 @@
 #![tactic(auto)]
 
 ghost use Rattle.std.specs.Prelude.{◌≡◌, ℕ, ◌<◌, ◌≤◌, true, min, length, map, take, drop, Some, None, Ok, IfOk, OnErr, MatchResult};
-ghost use Rattle.model.specs.Plain.{Ask.create, Ask.clone, Ask.delete, Ask.put, Ask.get, Ask.at, Ask.rows, Ask.summary, early, from, has, place};
+ghost use Rattle.model.specs.Plain.{Ask.create, Ask.clone, Ask.delete, Ask.put, Ask.remove, Ask.get, Ask.at, Ask.rows, Ask.summary, early, from, has, place};
 ghost use Rattle.page.specs.View.{root_of};
 ghost use Rattle.device.specs.Meaning.{blocks_of};
 ghost use Rattle.table.specs.Angles.{angle_at};
@@ -21,6 +21,7 @@ use model::Refusal;
 use mount::{Mounted, mount_store};
 use page::page::Entry;
 use page::roots::{Root, Slot};
+use removal::remove_tree;
 use std::alloc::Global;
 use std::marker::Model;
 use table::{Pair, Row, Summary};
@@ -229,6 +230,19 @@ impl<D: Device> Volume<D> {
         };
         self.working[n as usize] = Some(put_tree(&mut self.store, root, entry, grant));
         Ok(())
+    }
+
+    // Clears a row of a clone: its angle, if it was there.
+    pub fn remove(&mut self, n: u32, speed: u32) -> Result<Option<i32>, Refusal>
+        ensures { Called (remove n speed) (look speed (rows_of_clone self.old n)) self.old result self.new }
+    {
+        let root = self.check_speed(n, speed)?;
+        let Some(angle) = reads::get(&mut self.store, root, speed) else {
+            return Ok(None);
+        };
+        let grant = reserve(&self.store, n, 2 * root.height + 1)?;
+        self.working[n as usize] = Some(remove_tree(&mut self.store, root, speed, grant));
+        Ok(Some(angle))
     }
 
     // The angle of a clone's row of a speed, if there is one.

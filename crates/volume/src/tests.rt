@@ -55,6 +55,9 @@ fn siblings_keep_their_rows(rt: HostRuntime) -> Result<(), Fail> {
             })
         })
     );
+    assert_eq!(rt; volume.remove(7, 400), Ok(Some(300)));
+    assert_eq!(rt; volume.remove(7, 400), Ok(None));
+    assert_eq!(rt; volume.get(0, 400), Ok(Some(-100)));
     assert_eq!(rt; volume.delete(0), Ok(()));
     assert_eq!(rt; volume.get(0, 400), Err(Refusal::Absent));
     assert_eq!(rt; volume.get(7, 1_200), Ok(Some(250)));
