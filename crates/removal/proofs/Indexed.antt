@@ -53,12 +53,6 @@ take_one [] i d vs h = absurd (not-suc-le-zero h)
 take_one (e ∷ r) zero d vs h = refl
 take_one {X} (e ∷ r) (suc i) d vs h = ap (λ (z : List (ℕ × X)). e ∷ z) (take_one r i d vs (omega arith))
 
-pub drop_all : {X : Type 0} (es : List (ℕ × X)) (i : ℕ) → length es ≤ i → drop i es ≡ []
-drop_all [] zero h = refl
-drop_all [] (suc i) h = refl
-drop_all (e ∷ r) zero h = absurd (omega arith)
-drop_all (e ∷ r) (suc i) h = drop_all r i (omega arith)
-
 -- two neighbours, and their bounds
 pub seg_pair : {X : Type 0} (W : ℕ → ℕ → X → Type 0) (lo hi : ℕ) (es : List (ℕ × X)) (i : ℕ) (d : ℕ × X) → Seg ◌≡◌ W lo hi es → suc i < length es
     → W (get_or es i d).0 (get_or es (suc i) d).0 (get_or es i d).1 × ((mid : ℕ) × W (get_or es (suc i) d).0 mid (get_or es (suc i) d).1 × (length es ≡ suc (suc i) → mid ≡ hi))

@@ -1,5 +1,6 @@
 -- Every removal among the children of a block has a split.
 use Rattle.std.proofs.Common.{◌≡◌, ℕ, zero, suc, ◌+◌, ◌-◌, ◌*◌, ◌<◌, ◌≤◌, List, [], ◌∷◌, ◌++◌, length, get_or, take, drop, Some, None, Option, sym, refl, ap, ◌∙◌, ap₂, ⊎_elim, not-suc-le-zero, arith, length-append, length-drop, length-take}
+use Rattle.std.proofs.lemmas.List.{drop_all}
 use Rattle.std.proofs.lemmas.Bool.{eq-eqb, ne_eqb, lt-ltb, le-ltb, cases_eq, cases_lt}
 use Rattle.tree.specs.Node.{first, at, shrink, touch, ready_right, ready_left, map_e}
 use Rattle.tree.specs.Tree.{Pay, Tree, Gap, Cell, Span, over}
@@ -16,7 +17,7 @@ use Rattle.edit.proofs.Downs.{kids_append}
 use Rattle.edit.proofs.Removes.{kids_nil, halves}
 use Rattle.edit.proofs.Rems.{sep_right, sep_left}
 use Rattle.removal.specs.Split.{apart, merged, after, before, olds, Split}
-use Rattle.removal.proofs.Indexed.{Covers, covers, cut_one, cut_two, drop_one, take_one, drop_all, seg_pair, beside_right, beside_left, moves_right, moves_left, right_mapped, left_mapped}
+use Rattle.removal.proofs.Indexed.{Covers, covers, cut_one, cut_two, drop_one, take_one, seg_pair, beside_right, beside_left, moves_right, moves_left, right_mapped, left_mapped}
 
 pub first_join : {X : Type 0} (us vs : List (ℕ × X)) → 0 < length us → first (us ++ vs) ≡ first us
 first_join [] vs h = absurd (not-suc-le-zero h)
@@ -203,7 +204,7 @@ module _ (s l : ℕ) where
     -- the last child, with its left neighbour at i
     module _ (h : length es ≡ suc (suc i)) (low : (k : ℕ) → k ≤ suc i → (get_or es k D).0 ≤ s) (high : s < hi) where
       pub none : drop (suc (suc i)) es ≡ []
-      none = drop_all es (suc (suc i)) (omega arith)
+      none = drop_all (suc (suc i)) es (omega arith)
 
       unfoldable pub left_apart : (length ys ≡ 7 → ⊥) → Split s l es
       left_apart m =
