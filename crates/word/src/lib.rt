@@ -4,8 +4,7 @@
 ghost use Rattle.std.specs.Prelude.{◌≡◌, ◌^◌, ◌<◌};
 ghost use Rattle.word.specs.Words.{payload_of, word_of, number, KindIs};
 
-use std::error::Error;
-use std::fmt;
+use thiserror::Error;
 
 // What a word is for.
 #[derive(Clone, Copy, PartialEq, Eq, Debug)]
@@ -30,6 +29,19 @@ pub enum Kind {
     Record = 9,
 }
 
+// All kinds, in order.
+const KINDS: [Kind; 9] = [
+    Kind::Leaf,
+    Kind::Index,
+    Kind::Speed,
+    Kind::Angle,
+    Kind::Child,
+    Kind::Slot,
+    Kind::Clone,
+    Kind::Log,
+    Kind::Record,
+];
+
 impl Kind {
     // The word of this kind with a payload.
     pub fn word(self, payload: u32) -> u32
@@ -48,16 +60,9 @@ pub fn payload(word: u32) -> u32
 }
 
 // The number in a word's top 4 bits, which is no kind's.
-#[derive(Clone, Copy, PartialEq, Eq, Debug)]
+#[derive(Clone, Copy, PartialEq, Eq, Debug, Error)]
+#[error("no word is of kind {0}")]
 pub struct UnknownKind(pub u32);
-
-impl fmt::Display for UnknownKind {
-    fn fmt<W: fmt::Write>(&self, f: &mut fmt::Formatter<W>) -> fmt::Result {
-        write!(f, "no word is of kind {}", self.0)
-    }
-}
-
-impl Error for UnknownKind {}
 
 // The kind of a word.
 impl TryFrom<u32> for Kind {
@@ -66,17 +71,11 @@ impl TryFrom<u32> for Kind {
     ghost try_from_gives = { KindIs };
 
     fn try_from(word: u32) -> Result<Kind, UnknownKind> {
-        match word / 0x1000_0000 {
-            1 => Ok(Kind::Leaf),
-            2 => Ok(Kind::Index),
-            3 => Ok(Kind::Speed),
-            4 => Ok(Kind::Angle),
-            5 => Ok(Kind::Child),
-            6 => Ok(Kind::Slot),
-            7 => Ok(Kind::Clone),
-            8 => Ok(Kind::Log),
-            9 => Ok(Kind::Record),
-            number => Err(UnknownKind(number)),
-        }
+        let number = word / 0x1000_0000;
+        KINDS
+            .iter()
+            .copied()
+            .find(|kind| *kind as u32 == number)
+            .ok_or(UnknownKind(number))
     }
 }
