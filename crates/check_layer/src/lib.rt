@@ -66,6 +66,10 @@ impl<D: Device> Device for Check<D> {
 
     ghost fit = { λ s. fits (D.Device.meaning s.below) (D.Device.fit s.below) s.wide };
 
+    fn layer(&self) -> Layer {
+        Layer::Check
+    }
+
     fn blocks(&self) -> u32 {
         self.below.blocks()
     }
@@ -80,7 +84,7 @@ impl<D: Device> Device for Check<D> {
     }
 
     fn read(&mut self, block: u32, out: &mut [u32]) -> Result<(), DeviceFault> {
-        Layer::Check.admit(self.width(), self.blocks(), block, out.len())?;
+        self.admit(block, out.len())?;
         // No block is wider than 64 words.
         let mut buffer = [0; 64];
         let stored = &mut buffer[..=out.len()];
@@ -95,7 +99,7 @@ impl<D: Device> Device for Check<D> {
     }
 
     fn write(&mut self, block: u32, words: &[u32]) -> Result<(), DeviceFault> {
-        Layer::Check.admit(self.width(), self.blocks(), block, words.len())?;
+        self.admit(block, words.len())?;
         // No block is wider than 64 words.
         let mut buffer = [0; 64];
         let stored = &mut buffer[..=words.len()];

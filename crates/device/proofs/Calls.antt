@@ -1,5 +1,5 @@
 -- What reading and writing answer where they are admitted.
-use Rattle.std.proofs.Common.{◌≡◌, ℕ, ◌<◌, ◌≤◌, Ok, Err, Result, ap, ◌∙◌, ⊎_elim, arith}
+use Rattle.std.proofs.Common.{◌≡◌, ℕ, ◌<◌, ◌≤◌, Ok, Err, Result, ◌∙◌, ⊎_elim, arith}
 use Rattle.std.proofs.lemmas.Bool.{eq-eqb, ne_eqb, lt-ltb, le-ltb, cases_eq, cases_lt}
 use Rattle.device.specs.declared.Layer.{Layer}
 use Rattle.device.specs.declared.DeviceFault.TheVariants.{Length, Range, Worn}
@@ -14,20 +14,17 @@ module _ (l : Layer) (m : Meaning) (b n : ℕ) where
   writing_at e h = rw (eq-eqb n m.width e, lt-ltb b (blocks_of m) h)
 
   -- what is admitted has the right length and a block that is there
-  pub let_in : {w k : ℕ} → w ≡ m.width → k ≡ blocks_of m → Ok tt ≡ admitted l w k b n → (n ≡ m.width) × (b < blocks_of m)
-  let_in {w} {k} width blocks p =
+  pub let_in : Ok tt ≡ admitted l m b n → (n ≡ m.width) × (b < blocks_of m)
+  let_in p =
       ⊎_elim
       (λ (e : n ≡ m.width).
       ⊎_elim
       (λ (h : b < blocks_of m). (e, h))
-      (λ (h : blocks_of m ≤ b). absurd (no (Range (own l)) (q ∙ (let a = eq-eqb n m.width e in let c = le-ltb b (blocks_of m) h in rw (a, c)))))
+      (λ (h : blocks_of m ≤ b). absurd (no (Range (own l)) (p ∙ (let a = eq-eqb n m.width e in let c = le-ltb b (blocks_of m) h in rw (a, c)))))
       (cases_lt b (blocks_of m)))
-      (λ (e : n ≡ m.width → ⊥). absurd (no (Length (own l)) (q ∙ (let a = ne_eqb n m.width e in rw a))))
+      (λ (e : n ≡ m.width → ⊥). absurd (no (Length (own l)) (p ∙ (let a = ne_eqb n m.width e in rw a))))
       (cases_eq n m.width)
     where
-      q : Ok tt ≡ admitted l m.width (blocks_of m) b n
-      q = p ∙ ap (λ x. admitted l x k b n) width ∙ ap (λ x. admitted l m.width x b n) blocks
-
       no : (e : DeviceFault) → ◌≡◌ {A = Result Unit DeviceFault} (Ok tt) (Err e) → ⊥
       no e r = let z : ◌≡◌ {A = ℕ} 0 1 = cc in omega arith
 

@@ -47,9 +47,9 @@ raised_fault (Range k) = Range (raised k)
 raised_fault (Worn k) = Worn (raised k)
 raised_fault (Damaged k) = Damaged (raised k)
 
--- What is looked at first in reading and writing k words of block b, at a device of n blocks of w words: the length, and then the block.
-abbrev pub admitted : Layer → ℕ → ℕ → ℕ → ℕ → Result Unit DeviceFault
-admitted l w n b k = cond (k == w) (cond (nat_lt b n) (Ok tt) (Err (Range (own l)))) (Err (Length (own l)))
+-- What is looked at first in reading and writing n words of block b: the length, and then the block.
+abbrev pub admitted : Layer → Meaning → ℕ → ℕ → Result Unit DeviceFault
+admitted l m b n = cond (n == m.width) (cond (nat_lt b (blocks_of m)) (Ok tt) (Err (Range (own l)))) (Err (Length (own l)))
 
 -- Reading n words of block b: the words, or the refusal. The length is looked at first, then the block, then the content.
 abbrev pub held : Content → Result (List ℕ) DeviceFault

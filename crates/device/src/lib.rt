@@ -69,6 +69,10 @@ pub trait Device {
     // It keeps the rules of every device.
     ghost fit: { (x : Self) → Lawful (meaning x) };
 
+    // The layer, as refusals name it.
+    fn layer(&self) -> Layer
+        ensures { result ≡ code };
+
     // The number of blocks.
     fn blocks(&self) -> u32
         ensures { result ≡ blocks_of (meaning self.now) };
@@ -95,6 +99,19 @@ pub trait Device {
     // Makes every current content the persisted one.
     fn flush(&mut self)
         ensures after { meaning self.new ≡ flushed (meaning self.old) };
+
+    // Refuses a buffer that is not as wide as a block, and then a block that is not there.
+    fn admit(&self, block: u32, len: usize) -> Result<(), DeviceFault>
+        ensures { result ≡ admitted code (meaning self.now) block len }
+    {
+        if len != self.width() as usize {
+            return Err(DeviceFault::Length(self.layer().own()));
+        }
+        if block >= self.blocks() {
+            return Err(DeviceFault::Range(self.layer().own()));
+        }
+        Ok(())
+    }
 }
 
 impl Layer {
@@ -113,19 +130,6 @@ impl Layer {
             layer: self,
             depth: 0,
         }
-    }
-
-    // Refuses a buffer that is not as wide as a block, and then a block that is not there.
-    pub fn admit(self, width: u32, blocks: u32, block: u32, len: usize) -> Result<(), DeviceFault>
-        ensures { result ≡ admitted self width blocks block len }
-    {
-        if len != width as usize {
-            return Err(DeviceFault::Length(self.own()));
-        }
-        if block >= blocks {
-            return Err(DeviceFault::Range(self.own()));
-        }
-        Ok(())
     }
 }
 

@@ -8,7 +8,7 @@ use Rattle.std.proofs.ByRecursion.{All-append, All-take, All-drop, All-set}
 use Rattle.std.proofs.lemmas.Slice.{between-put_mid, take-put_mid_below}
 use Rattle.std.proofs.lemmas.List.FromFn.{length-map-range_with_len, map-range_with_len_more}
 use Rattle.std.proofs.lemmas.Bool.{cases_eq, eq-eqb, ne_eqb}
-use Rattle.device.specs.Meaning.{Meaning, Cell, words, held, reading, admitted, blocks_of, written, written_cell, flushed, flushed_cell, no_cell, own, spent}
+use Rattle.device.specs.Meaning.{Meaning, Cell, words, held, reading, admitted, written, written_cell, flushed, flushed_cell, no_cell, own, spent}
 use Rattle.device.specs.declared.Layer.TheVariants.{Log}
 use Rattle.device.proofs.Calls.{let_in, reading_at}
 use Rattle.device.proofs.Tables.{get_or_table, set_table, same_table, map_map}
@@ -100,11 +100,9 @@ pub same_record : (w : ℕ) (img img' : List ℕ) (i : ℕ) → get_or img' (pla
 same_record w img img' i p q = ap (λ x. (payload_of x, take w (drop (place_of w i + 1) img'))) p ∙ ap (λ ys. (payload_of (get_or img (place_of w i) 0), ys)) q
 
 -- what is admitted has the right length and a block that is there
-pub admitted_at : (img : List ℕ) (n w k b len : ℕ) {width blocks : ℕ} → width ≡ w → blocks ≡ blocks_of (log_of img n w k)
-    → Ok tt ≡ admitted Log width blocks b len → (len ≡ w) × (b < n)
-admitted_at img n w k b len {width} {blocks} p q e =
-    let m = log_of img n w k in
-    let t : (len ≡ w) × (b < blocks_of m) = let_in Log m b len p q e in
+pub admitted_at : (img : List ℕ) (n w k b len : ℕ) → Ok tt ≡ admitted Log (log_of img n w k) b len → (len ≡ w) × (b < n)
+admitted_at img n w k b len e =
+    let t = let_in Log (log_of img n w k) b len e in
     (t.0, omega (arith, t.1, length-map-range_with_len (log_cell w (records w img k) (flushed_in img)) 0 n))
 
 pub read_at : (img : List ℕ) (n w k b len : ℕ) → b < n → len ≡ w → reading Log (log_of img n w k) b len ≡ Ok (last_of (records w img k) b (replicate w 0))

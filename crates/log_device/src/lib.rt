@@ -219,6 +219,10 @@ impl<'a> Device for Log<'a> {
 
     ghost fit = { λ s. fit s.image.now s.blocks s.width s.count s.sound };
 
+    fn layer(&self) -> Layer {
+        Layer::Log
+    }
+
     fn blocks(&self) -> u32 {
         self.blocks
     }
@@ -233,7 +237,7 @@ impl<'a> Device for Log<'a> {
     }
 
     fn read(&mut self, block: u32, out: &mut [u32]) -> Result<(), DeviceFault> {
-        Layer::Log.admit(self.width(), self.blocks(), block, out.len())?;
+        self.admit(block, out.len())?;
         match self.last(block) {
             Some(words) => out.copy_from_slice(words),
             None => out.fill(0),
@@ -242,7 +246,7 @@ impl<'a> Device for Log<'a> {
     }
 
     fn write(&mut self, block: u32, words: &[u32]) -> Result<(), DeviceFault> {
-        Layer::Log.admit(self.width(), self.blocks(), block, words.len())?;
+        self.admit(block, words.len())?;
         if self.count >= capacity(self.image.len(), self.width) {
             return Err(DeviceFault::Worn(Layer::Log.own()));
         }

@@ -7,7 +7,7 @@ use Rattle.std.proofs.ByRecursion.{All-append, All-take, All-drop}
 use Rattle.std.proofs.lemmas.Slice.{between-put_mid, drop-put_mid, take-put_mid_below}
 use Rattle.std.proofs.lemmas.List.FromFn.{length-map-range_with_len}
 use Rattle.std.proofs.lemmas.Bool.{cases_eq, cases_order}
-use Rattle.device.specs.Meaning.{Meaning, Cell, words, admitted, blocks_of, reading, held, written, written_cell, flushed, flushed_cell, no_cell, own, endless, Cut, CutCell, CutTo}
+use Rattle.device.specs.Meaning.{Meaning, Cell, words, admitted, reading, held, written, written_cell, flushed, flushed_cell, no_cell, own, endless, Cut, CutCell, CutTo}
 use Rattle.device.specs.declared.Layer.TheVariants.{Memory}
 use Rattle.device.proofs.Calls.{let_in, reading_at}
 use Rattle.device.proofs.Tables.{map_map, get_or_table, set_table, same_table}
@@ -41,11 +41,9 @@ module _ (xs : List ℕ) (w n : ℕ) (long : length xs ≡ n * w) where
     put_all P px py = All-append P _ _ (All-take P (b * w) xs px) (All-append P _ _ py (All-drop P k _ (All-drop P (b * w) xs px)))
 
 -- what is admitted has the right length and a block that is there
-pub admitted_at : (cur per marks : List ℕ) (w b n : ℕ) {width blocks : ℕ} → width ≡ w → blocks ≡ blocks_of (memory cur per marks w)
-    → Ok tt ≡ admitted Memory width blocks b n → (n ≡ w) × (b < length marks)
-admitted_at cur per marks w b n {width} {blocks} p q e =
-    let m = memory cur per marks w in
-    let t : (n ≡ w) × (b < blocks_of m) = let_in Memory m b n p q e in
+pub admitted_at : (cur per marks : List ℕ) (w b n : ℕ) → Ok tt ≡ admitted Memory (memory cur per marks w) b n → (n ≡ w) × (b < length marks)
+admitted_at cur per marks w b n e =
+    let t = let_in Memory (memory cur per marks w) b n e in
     (t.0, omega (arith, t.1, length-map-range_with_len (cell_of cur per marks w) 0 (length marks)))
 
 module _ (cur per marks : List ℕ) (w : ℕ) (s : Sound cur per marks w) where

@@ -120,6 +120,10 @@ impl<'a> Device for Memory<'a> {
 
     ghost fit = { λ s. fit s.current.now s.persisted.now s.marks.now s.width s.sound };
 
+    fn layer(&self) -> Layer {
+        Layer::Memory
+    }
+
     fn blocks(&self) -> u32 {
         self.marks.len() as u32
     }
@@ -133,13 +137,13 @@ impl<'a> Device for Memory<'a> {
     }
 
     fn read(&mut self, block: u32, out: &mut [u32]) -> Result<(), DeviceFault> {
-        Layer::Memory.admit(self.width(), self.blocks(), block, out.len())?;
+        self.admit(block, out.len())?;
         out.copy_from_slice(self.words(block as usize));
         Ok(())
     }
 
     fn write(&mut self, block: u32, words: &[u32]) -> Result<(), DeviceFault> {
-        Layer::Memory.admit(self.width(), self.blocks(), block, words.len())?;
+        self.admit(block, words.len())?;
         let block = block as usize;
         let from = block * self.width;
         self.marks[block] = self.marks[block].saturating_add(1).min(2);

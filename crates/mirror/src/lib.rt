@@ -52,6 +52,10 @@ impl<A: Device, B: Device> Device for Mirror<A, B> {
 
     ghost fit = { λ s. fits (A.Device.meaning s.first) (B.Device.meaning s.second) (A.Device.fit s.first) (B.Device.fit s.second) s.alike };
 
+    fn layer(&self) -> Layer {
+        Layer::Mirror
+    }
+
     fn blocks(&self) -> u32 {
         self.first.blocks()
     }
@@ -72,7 +76,7 @@ impl<A: Device, B: Device> Device for Mirror<A, B> {
 
     // Where the first side is damaged, the second is read.
     fn read(&mut self, block: u32, out: &mut [u32]) -> Result<(), DeviceFault> {
-        Layer::Mirror.admit(self.width(), self.blocks(), block, out.len())?;
+        self.admit(block, out.len())?;
         let Err(fault) = self.first.read(block, out) else {
             return Ok(());
         };
@@ -81,7 +85,7 @@ impl<A: Device, B: Device> Device for Mirror<A, B> {
 
     // Neither side can refuse: the words are as wide as its blocks, the block is there, and a write is left.
     fn write(&mut self, block: u32, words: &[u32]) -> Result<(), DeviceFault> {
-        Layer::Mirror.admit(self.width(), self.blocks(), block, words.len())?;
+        self.admit(block, words.len())?;
         let (left, mark) = self.left();
         if left == 0 {
             return Err(DeviceFault::Worn(mark));

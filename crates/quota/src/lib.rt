@@ -48,6 +48,10 @@ impl<D: Device> Device for Quota<D> {
 
     ghost fit = { λ s. fits s.limit (D.Device.meaning s.below) (D.Device.fit s.below) s.allowed };
 
+    fn layer(&self) -> Layer {
+        Layer::Quota
+    }
+
     fn blocks(&self) -> u32 {
         self.limit
     }
@@ -62,12 +66,12 @@ impl<D: Device> Device for Quota<D> {
     }
 
     fn read(&mut self, block: u32, out: &mut [u32]) -> Result<(), DeviceFault> {
-        Layer::Quota.admit(self.width(), self.blocks(), block, out.len())?;
+        self.admit(block, out.len())?;
         pass_up(self.below.read(block, out))
     }
 
     fn write(&mut self, block: u32, words: &[u32]) -> Result<(), DeviceFault> {
-        Layer::Quota.admit(self.width(), self.blocks(), block, words.len())?;
+        self.admit(block, words.len())?;
         pass_up(self.below.write(block, words))
     }
 

@@ -21,20 +21,20 @@ pub returns-then-self-capacity-clause-answer : goal.returns-then-self-capacity-c
 returns-then-self-capacity-clause-answer c =
     let s = c.args.self.now in
     let m = log_of s.image.now s.blocks s.width s.count in
-    let t = admitted_at s.image.now s.blocks s.width s.count c.args.block (length c.args.words.now) c.width.ensures c.blocks-2.ensures (sym c.in_ok-admit.was ∙ c.admit.ensures) in
+    let t = admitted_at s.image.now s.blocks s.width s.count c.args.block (length c.args.words.now) (sym c.in_ok-admit.was ∙ c.admit.ensures) in
     let none : m.left ≤ 0 = omega (arith, length-map-range_with_len (record_at s.width s.image.now) 0 s.count, c.capacity.ensures, c.if-self-capacity.true) in
     worn c.own.ensures ∙ sym (writing_at Log m c.args.block (length c.args.words.now) t.0 (simp length-map-range_with_len t.1) ∙ spending_worn m none)
 
 pub word-requires : goal.word-requires
 word-requires c =
     let s = c.args.self.now in
-    let t = admitted_at s.image.now s.blocks s.width s.count c.args.block (length c.args.words.now) c.width.ensures c.blocks-2.ensures (sym c.in_ok-admit.was ∙ c.admit.ensures) in
+    let t = admitted_at s.image.now s.blocks s.width s.count c.args.block (length c.args.words.now) (sym c.in_ok-admit.was ∙ c.admit.ensures) in
     omega (arith, t.1, s.sound.few)
 
 pub index_mut-requires : goal.index_mut-requires
 index_mut-requires c =
     let s = c.args.self.now in
-    let t = admitted_at s.image.now s.blocks s.width s.count c.args.block (length c.args.words.now) c.width.ensures c.blocks-2.ensures (sym c.in_ok-admit.was ∙ c.admit.ensures) in
+    let t = admitted_at s.image.now s.blocks s.width s.count c.args.block (length c.args.words.now) (sym c.in_ok-admit.was ∙ c.admit.ensures) in
     omega (arith, t.1, s.indexed.long)
 
 pub invariant_of-self : goal.invariant_of-self
@@ -47,7 +47,7 @@ invariant_of-self c =
     let b = c.args.block in
     let ws = c.args.words.now in
     let index = vec_items s.index in
-    let t = admitted_at img n w k b (length ws) c.width.ensures c.blocks-2.ensures (sym c.in_ok-admit.was ∙ c.admit.ensures) in
+    let t = admitted_at img n w k b (length ws) (sym c.in_ok-admit.was ∙ c.admit.ensures) in
     let fits : AllByRecursion (λ x. x < 2 ^ 32) ws = All-from_get_or (λ x. x < 2 ^ 32) ws 0 (λ i l. omega (arith, c.type_inv.words i)) in
     let room : k < capacity (length img) w = omega (arith, c.capacity.ensures, c.if-self-capacity.false) in
     let from = c.place-from.result in
@@ -73,7 +73,7 @@ returns-clause-after c =
     let k = s.count in
     let b = c.args.block in
     let ws = c.args.words.now in
-    let t = admitted_at img n w k b (length ws) c.width.ensures c.blocks-2.ensures (sym c.in_ok-admit.was ∙ c.admit.ensures) in
+    let t = admitted_at img n w k b (length ws) (sym c.in_ok-admit.was ∙ c.admit.ensures) in
     let fits : AllByRecursion (λ x. x < 2 ^ 32) ws = All-from_get_or (λ x. x < 2 ^ 32) ws 0 (λ i l. omega (arith, c.type_inv.words i)) in
     let room : k < capacity (length img) w = omega (arith, c.capacity.ensures, c.if-self-capacity.false) in
     let e : c.write_record.new.to ≡ word_of 9 b ∷ ws = c.write_record.ensures ∙ ap (λ x. x ∷ ws) c.word.ensures in
@@ -86,6 +86,6 @@ pub returns-clause-answer : goal.returns-clause-answer
 returns-clause-answer c =
     let s = c.args.self.now in
     let m = log_of s.image.now s.blocks s.width s.count in
-    let t = admitted_at s.image.now s.blocks s.width s.count c.args.block (length c.args.words.now) c.width.ensures c.blocks-2.ensures (sym c.in_ok-admit.was ∙ c.admit.ensures) in
+    let t = admitted_at s.image.now s.blocks s.width s.count c.args.block (length c.args.words.now) (sym c.in_ok-admit.was ∙ c.admit.ensures) in
     let some : 0 < m.left = omega (arith, length-map-range_with_len (record_at s.width s.image.now) 0 s.count, c.capacity.ensures, c.if-self-capacity.false) in
     sym (writing_at Log m c.args.block (length c.args.words.now) t.0 (simp length-map-range_with_len t.1) ∙ spending_ok m some)
