@@ -5,6 +5,7 @@
 ghost use Rattle.std.specs.Prelude.{◌≡◌, ◌<◌, length, replicate, IfOk, MatchBool, MatchResult};
 ghost use Rattle.std.specs.List.{AllByRecursion};
 ghost use Rattle.device.specs.declared.Layer.{Layer};
+ghost use Rattle.device.specs.Meaning.{written};
 ghost use Rattle.std.proofs.Props.{props};
 ghost use Rattle.memory.specs.Fit.{fit};
 ghost use Rattle.memory.specs.Memory.{memory, Sound, Shaped, block_of, cleared, Outlasts};
@@ -13,11 +14,9 @@ use device::{Device, DeviceFault, Layer, LayerMark, Unshaped};
 
 #[derive(Drop)]
 pub struct Memory<'a> {
-    current: &'a mut [u32],
-    persisted: &'a mut [u32],
-    marks: &'a mut [u8],
+    slices: Slices<'a>,
     width: usize,
-    ghost sound: { Sound current.now persisted.now marks.now width } by { Prim.hlevel props },
+    ghost sound: { Sound slices.current.now slices.persisted.now slices.marks.now width } by { Prim.hlevel props },
 }
 
 // What a memory is made of: each slice is lent apart, since only the persisted words outlast a cut.
@@ -39,6 +38,39 @@ impl<'a> Slices<'a> {
             && (1..=64).contains(&width)
             && self.current.len() == blocks * width
             && self.persisted.len() == blocks * width
+    }
+
+    // Makes the words the current ones of a block, and counts the write in its mark.
+    fn put(&mut self, block: usize, words: &[u32])
+        requires sound { Sound self.old.current.now self.old.persisted.now self.old.marks.now (length words.now) }
+        requires there { block < length self.old.marks.now }
+        ensures sound { Sound self.new.current.now self.new.persisted.now self.new.marks.now (length words.now) }
+        ensures after { memory self.new.current.now self.new.persisted.now self.new.marks.now (length words.now)
+            ≡ written (memory self.old.current.now self.old.persisted.now self.old.marks.now (length words.now)) block words.now }
+    {
+        let from = block * words.len();
+        self.marks[block] = self.marks[block].saturating_add(1).min(2);
+        self.current[from..from + words.len()].copy_from_slice(words);
+    }
+
+    // Makes the persisted words the current ones, and marks no block.
+    fn restore(&mut self)
+        requires { length self.old.current.now ≡ length self.old.persisted.now }
+        ensures current { self.new.current.now ≡ self.old.persisted.now }
+        ensures persisted { self.new.persisted.now ≡ self.old.persisted.now }
+        ensures marks { self.new.marks.now ≡ replicate (length self.old.marks.now) 0 }
+    {
+        settle(self.persisted, self.current, self.marks);
+    }
+
+    // Makes the current words the persisted ones, and marks no block.
+    fn persist(&mut self)
+        requires { length self.old.persisted.now ≡ length self.old.current.now }
+        ensures current { self.new.current.now ≡ self.old.current.now }
+        ensures persisted { self.new.persisted.now ≡ self.old.current.now }
+        ensures marks { self.new.marks.now ≡ replicate (length self.old.marks.now) 0 }
+    {
+        settle(self.current, self.persisted, self.marks);
     }
 }
 
@@ -65,67 +97,53 @@ impl<'a> Memory<'a> {
     ) -> Result<Memory<'a>, Unshaped<Slices<'a>>>
         ensures opened { MatchResult result
             (λ s. Shaped (length current.old) (length persisted.old) (length marks.old) width
-            × (memory s.current.now s.persisted.now s.marks.now s.width ≡ cleared persisted.old (length marks.old) width))
+            × (memory s.slices.current.now s.slices.persisted.now s.slices.marks.now s.width ≡ cleared persisted.old (length marks.old) width))
             (λ e. (Shaped (length current.old) (length persisted.old) (length marks.old) width → ⊥)
             × (e.given.current.now ≡ current.old) × (e.given.persisted.now ≡ persisted.old) × (e.given.marks.now ≡ marks.old)) }
-        ensures cut { IfOk result (λ s. Outlasts persisted.old (length marks.old) width (memory s.current.now s.persisted.now s.marks.now s.width)) }
+        ensures cut { IfOk result (λ s. Outlasts persisted.old (length marks.old) width (memory s.slices.current.now s.slices.persisted.now s.slices.marks.now s.width)) }
     {
-        let given = Slices {
+        let mut slices = Slices {
             current,
             persisted,
             marks,
         };
-        if !given.is_shaped(width) {
-            return Err(Unshaped { given });
+        if !slices.is_shaped(width) {
+            return Err(Unshaped { given: slices });
         }
-        let Slices {
-            current,
-            persisted,
-            marks,
-        } = given;
-        settle(persisted, current, marks);
-        Ok(Memory {
-            current,
-            persisted,
-            marks,
-            width,
-        })
+        slices.restore();
+        Ok(Memory { slices, width })
     }
 
     // Gives the slices back as they are.
     pub fn into_slices(self) -> Slices<'a>
-        ensures { (result.current.now ≡ self.entry.current.now) × (result.persisted.now ≡ self.entry.persisted.now) × (result.marks.now ≡ self.entry.marks.now) }
+        ensures { (result.current.now ≡ self.entry.slices.current.now) × (result.persisted.now ≡ self.entry.slices.persisted.now) × (result.marks.now ≡ self.entry.slices.marks.now) }
     {
-        Slices {
-            current: self.current,
-            persisted: self.persisted,
-            marks: self.marks,
-        }
+        self.slices
     }
 
     // The current words of a block.
     fn words(&self, block: usize) -> &[u32]
-        requires { block < length self.now.marks.now }
-        ensures { result.now ≡ block_of self.now.width self.now.current.now block }
+        requires { block < length self.now.slices.marks.now }
+        ensures { result.now ≡ block_of self.now.width self.now.slices.current.now block }
     {
         let from = block * self.width;
-        &self.current[from..from + self.width]
+        &self.slices.current[from..from + self.width]
     }
 }
 
 impl<'a> Device for Memory<'a> {
     ghost code = { Layer.Memory };
 
-    ghost meaning = { λ s. memory s.current.now s.persisted.now s.marks.now s.width };
+    ghost meaning = { λ s. memory s.slices.current.now s.slices.persisted.now s.slices.marks.now s.width };
 
-    ghost fit = { λ s. fit s.current.now s.persisted.now s.marks.now s.width s.sound };
+    ghost fit = { λ s. fit s.slices.current.now s.slices.persisted.now s.slices.marks.now s.width s.sound };
 
     fn layer(&self) -> Layer {
         Layer::Memory
     }
 
     fn blocks(&self) -> u32 {
-        self.marks.len() as u32
+        self.slices.marks.len() as u32
     }
 
     fn width(&self) -> u32 {
@@ -144,15 +162,12 @@ impl<'a> Device for Memory<'a> {
 
     fn write(&mut self, block: u32, words: &[u32]) -> Result<(), DeviceFault> {
         self.admit(block, words.len())?;
-        let block = block as usize;
-        let from = block * self.width;
-        self.marks[block] = self.marks[block].saturating_add(1).min(2);
-        self.current[from..from + self.width].copy_from_slice(words);
+        self.slices.put(block as usize, words);
         Ok(())
     }
 
     fn flush(&mut self) {
-        settle(self.current, self.persisted, self.marks);
+        self.slices.persist();
     }
 }
 

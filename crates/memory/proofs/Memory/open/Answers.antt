@@ -8,7 +8,9 @@ returns-clause-cut c =
     let per = c.args.persisted.now in
     let n = length c.args.marks.now in
     let w = c.args.width in
-    let shown : memory c.settle.new.to c.settle.new.from c.settle.new.marks w ≡ cleared per n w =
-    ap (λ x. memory x c.settle.new.from c.settle.new.marks w) c.settle.ensures.to ∙ ap (λ x. memory per x c.settle.new.marks w) c.settle.ensures.from
-    ∙ ap (λ ms. memory per per ms w) c.settle.ensures.marks in
+    let t = c.restore.new.self in
+    let e = c.restore.ensures in
+    let shown : memory t.current.now t.persisted.now t.marks.now w ≡ cleared per n w =
+    ap (λ x. memory x t.persisted.now t.marks.now w) e.current ∙ ap (λ x. memory per x t.marks.now w) e.persisted
+    ∙ ap (λ ms. memory per per ms w) e.marks in
     subst (Outlasts per n w) (sym shown) (opened_cut per n w)

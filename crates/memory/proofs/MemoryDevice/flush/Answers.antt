@@ -6,8 +6,9 @@ use Rattle.memory.proofs.MemoryDevice.flush.Goals as goal
 pub returns : goal.returns
 returns c =
     let s = c.args.self.now in
-    let e = c.settle.ensures in
+    let t = c.persist.new.self in
+    let e = c.persist.ensures in
     record {
-      after = ap (λ x. memory x c.settle.new.to c.settle.new.marks s.width) e.from ∙ ap (λ x. memory s.current.now x c.settle.new.marks s.width) e.to
-          ∙ ap (λ ms. memory s.current.now s.current.now ms s.width) e.marks ∙ flush_after s.current.now s.persisted.now s.marks.now s.width s.sound;
+      after = ap (λ x. memory x t.persisted.now t.marks.now s.width) e.current ∙ ap (λ x. memory s.slices.current.now x t.marks.now s.width) e.persisted
+          ∙ ap (λ ms. memory s.slices.current.now s.slices.current.now ms s.width) e.marks ∙ flush_after s.slices.current.now s.slices.persisted.now s.slices.marks.now s.width s.sound;
     }

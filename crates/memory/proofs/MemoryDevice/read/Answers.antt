@@ -7,18 +7,18 @@ use Rattle.memory.proofs.MemoryDevice.read.Goals as goal
 pub words-requires : goal.words-requires
 words-requires c =
     let s = c.args.self.now in
-    (admitted_at s.current.now s.persisted.now s.marks.now s.width c.args.block (length c.args.out.now) (sym c.in_ok-admit.was ∙ c.admit.ensures)).1
+    (admitted_at s.slices.current.now s.slices.persisted.now s.slices.marks.now s.width c.args.block (length c.args.out.now) (sym c.in_ok-admit.was ∙ c.admit.ensures)).1
 
 pub copy_from_slice-requires : goal.copy_from_slice-requires
 copy_from_slice-requires c =
     let s = c.args.self.now in
-    let t = admitted_at s.current.now s.persisted.now s.marks.now s.width c.args.block (length c.args.out.now) (sym c.in_ok-admit.was ∙ c.admit.ensures) in
-    t.0 ∙ sym (ap length c.words.ensures ∙ block_length s.current.now s.width (length s.marks.now) s.sound.cur_len c.args.block t.1)
+    let t = admitted_at s.slices.current.now s.slices.persisted.now s.slices.marks.now s.width c.args.block (length c.args.out.now) (sym c.in_ok-admit.was ∙ c.admit.ensures) in
+    t.0 ∙ sym (ap length c.words.ensures ∙ block_length s.slices.current.now s.width (length s.slices.marks.now) s.sound.cur_len c.args.block t.1)
 
 pub returns : goal.returns
 returns c =
     let s = c.args.self.now in
     let n = length c.args.out.now in
-    let t = admitted_at s.current.now s.persisted.now s.marks.now s.width c.args.block n (sym c.in_ok-admit.was ∙ c.admit.ensures) in
-    let r = read_at s.current.now s.persisted.now s.marks.now s.width s.sound c.args.block n t.1 t.0 in
+    let t = admitted_at s.slices.current.now s.slices.persisted.now s.slices.marks.now s.width c.args.block n (sym c.in_ok-admit.was ∙ c.admit.ensures) in
+    let r = read_at s.slices.current.now s.slices.persisted.now s.slices.marks.now s.width s.sound c.args.block n t.1 t.0 in
     record { same = refl; answer = sym (ap answered r); buffer = c.copy_from_slice.ensures.after ∙ c.words.ensures ∙ sym (ap (λ x. filled x c.args.out.now) r) }
