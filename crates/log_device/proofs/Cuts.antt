@@ -90,7 +90,7 @@ module _ (img left : List ℕ) (n w k : ℕ) (s : Sound img n w k) (l : Leaves w
   }
 
   pub shaped : Shaped (length left) n w
-  shaped = record { long = omega (arith, l.same_length, s.room); some = s.some; few = s.few; broad = s.broad; narrow = s.narrow }
+  shaped = record { long = omega (arith, l.same_length, s.room); limits = s.limits }
 
 pub outlasts : (left : List ℕ) (n w : ℕ) → Outlasts left n w
 outlasts left n w img k s l = (shaped img left n w k s l, formed img left n w k s l, cut_opened img left n w k s l)

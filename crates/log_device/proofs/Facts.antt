@@ -139,10 +139,7 @@ module _ (img : List ℕ) (n w k : ℕ) (s : Sound img n w k) where
 
   pub flush_sound : Sound headed n w k
   flush_sound = record {
-    some = s.some;
-    few = s.few;
-    broad = s.broad;
-    narrow = s.narrow;
+    limits = s.limits;
     room = omega (arith, s.room, length-set img 0 (word_of 8 k));
     small = s.small;
     head = ap kind_of head_is ∙ kind_word 8 k (omega (arith, s.small));
@@ -196,7 +193,7 @@ module _ (img : List ℕ) (n w k : ℕ) (s : Sound img n w k) (b : ℕ) (ws : Li
   pub put_record : record_at w put k ≡ (b, ws)
   put_record =
       ap (λ x. (payload_of x, take w (drop (at + 1) put))) put_word
-      ∙ ap (λ x. (x, take w (drop (at + 1) put))) (payload_word 9 b (omega (arith, s.few)))
+      ∙ ap (λ x. (x, take w (drop (at + 1) put))) (payload_word 9 b (omega (arith, s.limits.few)))
       ∙ ap (λ ys. (b, ys)) put_words
 
   put_records : records w put (k + 1) ≡ records w img k ++ ((b, ws) ∷ [])
@@ -216,22 +213,19 @@ module _ (img : List ℕ) (n w k : ℕ) (s : Sound img n w k) (b : ℕ) (ws : Li
 
   pub write_sound : Sound put n w (k + 1)
   write_sound = record {
-    some = s.some;
-    few = s.few;
-    broad = s.broad;
-    narrow = s.narrow;
+    limits = s.limits;
     room = omega (arith, put_length, ends, add-mul k 1 (w + 1));
     small = omega arith;
     head = ap kind_of (put_low 0 (omega arith)) ∙ s.head;
     flushed = omega (arith, ap payload_of (put_low 0 (omega arith)), s.flushed);
     kinds = λ i i<. ⊎_elim
         (λ (e : i ≡ k). subst (λ j. IsRecord n (get_or put (place_of w j) 0)) (sym e)
-        (subst (IsRecord n) (sym put_word) (kind_word 9 b (omega (arith, s.few)), omega (arith, payload_word 9 b (omega (arith, s.few))))))
+        (subst (IsRecord n) (sym put_word) (kind_word 9 b (omega (arith, s.limits.few)), omega (arith, payload_word 9 b (omega (arith, s.limits.few))))))
         (λ (ne : i ≡ k → ⊥).
         let i<k : i < k = omega arith in
         subst (IsRecord n) (sym (put_low (place_of w i) (omega (arith, rows i k (w + 1) i<k)))) (s.kinds i i<k))
         (cases_eq i k);
-    fits = All-append _ _ _ (All-take _ at img s.fits) (All-append _ ((word_of 9 b) ∷ ws) _ (omega (arith, s.few), fits) (All-drop _ c _ (All-drop _ at img s.fits)));
+    fits = All-append _ _ _ (All-take _ at img s.fits) (All-append _ ((word_of 9 b) ∷ ws) _ (omega (arith, s.limits.few), fits) (All-drop _ c _ (All-drop _ at img s.fits)));
   }
 
 pub room_of : (k w len : ℕ) → 1 ≤ len → k ≤ capacity len w → place_of w k ≤ len

@@ -64,10 +64,10 @@ module _ (img : List ℕ) (n w k : ℕ) (s : Sound img n w k) where
   fit =
       let long : length (log_of img n w k).cells ≡ n = length-map-range_with_len (log_cell w (records w img k) (flushed_in img)) 0 n in
       record {
-        some = omega (arith, s.some);
-        few = omega (arith, s.few);
-        broad = s.broad;
-        narrow = s.narrow;
+        some = omega (arith, s.limits.some);
+        few = omega (arith, s.limits.few);
+        broad = s.limits.broad;
+        narrow = s.limits.narrow;
         cells = all_table (LawfulCell w) (log_cell w (records w img k) (flushed_in img)) n (λ b h. cell_fit b);
         left = omega arith;
       }

@@ -62,13 +62,17 @@ IsRecord n x = (kind_of x ≡ 9) × (payload_of x < n)
 abbrev pub AreRecords : List ℕ → ℕ → ℕ → ℕ → Type 0
 AreRecords img n w k = (i : ℕ) → i < k → IsRecord n (slice_index img (place_of w i))
 
--- the length of the image, the number of blocks and their width
-pub record Shaped (len n w : ℕ) : Type 0 where
-  pub long : 1 ≤ len
+-- the number of blocks and their width
+pub record Limits (n w : ℕ) : Type 0 where
   pub some : 1 ≤ n
   pub few : n ≤ 4096
   pub broad : 1 ≤ w
   pub narrow : w ≤ 64
+
+-- the length of the image, the number of blocks and their width
+pub record Shaped (len n w : ℕ) : Type 0 where
+  pub long : 1 ≤ len
+  pub limits : Limits n w
 
 -- the head and the words of the flushed records
 pub record Formed (img : List ℕ) (n w : ℕ) : Type 0 where
@@ -78,10 +82,7 @@ pub record Formed (img : List ℕ) (n w : ℕ) : Type 0 where
 
 -- what opening establishes of the image, and each call keeps
 pub record Sound (img : List ℕ) (n w k : ℕ) : Type 0 where
-  pub some : 1 ≤ n
-  pub few : n ≤ 4096
-  pub broad : 1 ≤ w
-  pub narrow : w ≤ 64
+  pub limits : Limits n w
   pub room : place_of w k ≤ length img
   pub small : k ≤ 268435455
   pub head : kind_of (slice_index img 0) ≡ 8

@@ -7,22 +7,13 @@ ghost use Rattle.std.specs.List.{AllByRecursion};
 ghost use Rattle.device.specs.declared.Layer.{Layer};
 ghost use Rattle.std.proofs.Props.{props};
 ghost use Rattle.log_device.specs.Fit.{fit};
-ghost use Rattle.log_device.specs.Log.{log_of, opened_log, Sound, Indexed, records, last_of, capacity, IsRecord, AreRecords, Shaped, Formed, Outlasts, place_of, flushed_in};
+ghost use Rattle.log_device.specs.Log.{log_of, opened_log, Limits, Sound, Indexed, records, last_of, capacity, IsRecord, AreRecords, Shaped, Formed, Outlasts, place_of, flushed_in};
 ghost use Rattle.log_device.specs.declared.LogRefusal.{LogRefusal};
 ghost use Rattle.log_device.specs.Refusals.{Refused, refusal_number};
 
 use device::{Device, DeviceFault, Layer, LayerMark};
 use std::alloc::{AllocError, Global};
 use word::{Kind, payload};
-
-// How many records an image has room for.
-fn capacity(words: usize, width: usize) -> usize
-    requires some { 1 ≤ words }
-    requires narrow { width ≤ 64 }
-    ensures { result ≡ capacity words width }
-{
-    ((words - 1) / (width + 1)).min(268_435_455)
-}
 
 // Writes a record: the word of its block, and its content.
 fn write_record(to: &mut [u32], word: u32, words: &[u32])
@@ -33,34 +24,6 @@ fn write_record(to: &mut [u32], word: u32, words: &[u32])
     to[1..].copy_from_slice(words);
 }
 
-// Where a record begins.
-fn place(width: usize, number: usize) -> usize
-    requires narrow { width ≤ 64 }
-    requires few { number ≤ 268435455 }
-    ensures { result ≡ place_of width number }
-{
-    1 + number * (width + 1)
-}
-
-// Is this the word of a record of one of the blocks?
-fn is_record(word: u32, blocks: u32) -> bool
-    ensures { MatchBool result (IsRecord blocks word) (IsRecord blocks word → ⊥) }
-{
-    Kind::try_from(word) == Ok(Kind::Record) && payload(word) < blocks
-}
-
-// Are these the words of the first records?
-fn are_records(image: &[u32], blocks: u32, width: usize, count: usize) -> bool
-    requires within { place_of width count ≤ length image.now }
-    requires few { count ≤ 268435455 }
-    requires narrow { width ≤ 64 }
-    ensures { MatchBool result (AreRecords image.now blocks width count) (AreRecords image.now blocks width count → ⊥) }
-{
-    image[1..place(width, count)]
-        .chunks_exact(width + 1)
-        .all(|record| is_record(record[0], blocks))
-}
-
 // How many records the head says are flushed.
 fn flushed(image: &[u32]) -> usize
     requires { 1 ≤ length image.now }
@@ -69,50 +32,92 @@ fn flushed(image: &[u32]) -> usize
     payload(image[0]) as usize
 }
 
-// Is there a head, and are there 1 to 4,096 blocks of 1 to 64 words?
-fn is_shaped(image: &[u32], blocks: u32, width: usize) -> bool
-    ensures { MatchBool result (Shaped (length image.now) blocks width) (Shaped (length image.now) blocks width → ⊥) }
-{
-    !image.is_empty() && (1..=4096).contains(&blocks) && (1..=64).contains(&width)
-}
-
-// Are the head and the words of the flushed records in order?
-fn is_formed(image: &[u32], blocks: u32, width: usize) -> bool
-    requires { Shaped (length image.now) blocks width }
-    ensures { MatchBool result (Formed image.now blocks width) (Formed image.now blocks width → ⊥) }
-{
-    let count = flushed(image);
-    Kind::try_from(image[0]) == Ok(Kind::Log)
-        && count <= capacity(image.len(), width)
-        && are_records(image, blocks, width, count)
-}
-
-// The numbers of each block's last record, or why the image is not opened.
-fn read_index(
-    heap: Global,
-    image: &[u32],
+// How a log lies in an image: its blocks, 1 to 4,096, and the words of each, 1 to 64.
+#[derive(Clone, Copy)]
+struct Layout {
     blocks: u32,
     width: usize,
-) -> Result<Vec<Option<u32>>, LogRefusal>
-    ensures formed { MatchResult result
-        (λ index. Shaped (length image.now) blocks width × Formed image.now blocks width
-        × Indexed image.now blocks width (flushed_in image.now) index.items)
-        (λ e. Refused e image.now blocks width) }
-    ensures fits { AllByRecursion (λ x. x < 2 ^ 32) image.now }
-{
-    if !is_shaped(image, blocks, width) {
-        return Err(LogRefusal::Shape);
+    ghost limits: { Limits blocks width } by { Prim.hlevel props },
+}
+
+impl Layout {
+    // None where the limits are broken.
+    fn new(blocks: u32, width: usize) -> Option<Layout>
+        ensures { MatchOption result (Limits blocks width → ⊥) (λ layout. (layout.blocks ≡ blocks) × (layout.width ≡ width)) }
+    {
+        if !(1..=4096).contains(&blocks) || !(1..=64).contains(&width) {
+            return None;
+        }
+        Some(Layout { blocks, width })
     }
-    if !is_formed(image, blocks, width) {
-        return Err(LogRefusal::Malformed);
+
+    // Where a record begins.
+    fn place(self, number: usize) -> usize
+        requires { number ≤ 268435455 }
+        ensures { result ≡ place_of self.width number }
+    {
+        1 + number * (self.width + 1)
     }
-    let mut index = vec![in heap; None; blocks as usize]?;
-    let count = flushed(image);
-    let records = &image[1..place(width, count)];
-    for (number, record) in records.chunks_exact(width + 1).enumerate() {
-        index[payload(record[0]) as usize] = Some(number as u32);
+
+    // How many records an image of some words has room for.
+    fn capacity(self, words: usize) -> usize
+        requires { 1 ≤ words }
+        ensures { result ≡ capacity words self.width }
+    {
+        ((words - 1) / (self.width + 1)).min(268_435_455)
     }
-    Ok(index)
+
+    // Is this the word of a record of one of the blocks?
+    fn is_record(self, word: u32) -> bool
+        ensures { MatchBool result (IsRecord self.blocks word) (IsRecord self.blocks word → ⊥) }
+    {
+        Kind::try_from(word) == Ok(Kind::Record) && payload(word) < self.blocks
+    }
+
+    // Are these the words of the first records?
+    fn are_records(self, image: &[u32], count: usize) -> bool
+        requires within { place_of self.width count ≤ length image.now }
+        requires few { count ≤ 268435455 }
+        ensures { MatchBool result (AreRecords image.now self.blocks self.width count) (AreRecords image.now self.blocks self.width count → ⊥) }
+    {
+        image[1..self.place(count)]
+            .chunks_exact(self.width + 1)
+            .all(|record| self.is_record(record[0]))
+    }
+
+    // Are the head and the words of the flushed records in order?
+    fn is_formed(self, image: &[u32]) -> bool
+        requires { 1 ≤ length image.now }
+        ensures { MatchBool result (Formed image.now self.blocks self.width) (Formed image.now self.blocks self.width → ⊥) }
+    {
+        let count = flushed(image);
+        Kind::try_from(image[0]) == Ok(Kind::Log)
+            && count <= self.capacity(image.len())
+            && self.are_records(image, count)
+    }
+
+    // The numbers of each block's last record, or why the image is not opened.
+    fn read_index(self, heap: Global, image: &[u32]) -> Result<Vec<Option<u32>>, LogRefusal>
+        ensures formed { MatchResult result
+            (λ index. Shaped (length image.now) self.blocks self.width × Formed image.now self.blocks self.width
+            × Indexed image.now self.blocks self.width (flushed_in image.now) index.items)
+            (λ e. Refused e image.now self.blocks self.width) }
+        ensures fits { AllByRecursion (λ x. x < 2 ^ 32) image.now }
+    {
+        if image.is_empty() {
+            return Err(LogRefusal::Shape);
+        }
+        if !self.is_formed(image) {
+            return Err(LogRefusal::Malformed);
+        }
+        let mut index = vec![in heap; None; self.blocks as usize]?;
+        let count = flushed(image);
+        let records = &image[1..self.place(count)];
+        for (number, record) in records.chunks_exact(self.width + 1).enumerate() {
+            index[payload(record[0]) as usize] = Some(number as u32);
+        }
+        Ok(index)
+    }
 }
 
 // Why an image is not opened.
@@ -153,13 +158,12 @@ pub struct Unopened<'a> {
 #[derive(Drop)]
 pub struct Log<'a> {
     image: &'a mut [u32],
-    blocks: u32,
-    width: usize,
+    layout: Layout,
     count: usize,
     // The number of each block's last record.
     index: Vec<Option<u32>>,
-    ghost sound: { Sound image.now blocks width count } by { Prim.hlevel props },
-    ghost indexed: { Indexed image.now blocks width count index.items } by { Prim.hlevel props },
+    ghost sound: { Sound image.now layout.blocks layout.width count } by { Prim.hlevel props },
+    ghost indexed: { Indexed image.now layout.blocks layout.width count index.items } by { Prim.hlevel props },
 }
 
 impl<'a> Log<'a> {
@@ -172,18 +176,21 @@ impl<'a> Log<'a> {
     ) -> Result<Log<'a>, Unopened<'a>>
         ensures opened { MatchResult result
             (λ s. Shaped (length image.old) blocks width × Formed image.old blocks width
-            × (log_of s.image.now s.blocks s.width s.count ≡ opened_log image.old blocks width)
+            × (log_of s.image.now s.layout.blocks s.layout.width s.count ≡ opened_log image.old blocks width)
             × (s.image.now ≡ image.old))
             (λ e. (e.image.now ≡ image.old) × Refused e.refusal image.old blocks width) }
         ensures cut { Outlasts image.old blocks width }
     {
-        match read_index(heap, image, blocks, width) {
+        let Some(layout) = Layout::new(blocks, width) else {
+            let refusal = LogRefusal::Shape;
+            return Err(Unopened { image, refusal });
+        };
+        match layout.read_index(heap, image) {
             Ok(index) => {
                 let count = flushed(image);
                 Ok(Log {
                     image,
-                    blocks,
-                    width,
+                    layout,
                     count,
                     index,
                 })
@@ -201,38 +208,38 @@ impl<'a> Log<'a> {
 
     // The words of a block's last record.
     fn last(&self, block: u32) -> Option<&[u32]>
-        requires { block < self.now.blocks }
+        requires { block < self.now.layout.blocks }
         ensures { MatchOption result
-            (last_of (records self.now.width self.now.image.now self.now.count) block (replicate self.now.width 0) ≡ replicate self.now.width 0)
-            (λ words. words.now ≡ last_of (records self.now.width self.now.image.now self.now.count) block (replicate self.now.width 0)) }
+            (last_of (records self.now.layout.width self.now.image.now self.now.count) block (replicate self.now.layout.width 0) ≡ replicate self.now.layout.width 0)
+            (λ words. words.now ≡ last_of (records self.now.layout.width self.now.image.now self.now.count) block (replicate self.now.layout.width 0)) }
     {
         let number = self.index[block as usize]?;
-        let from = place(self.width, number as usize) + 1;
-        Some(&self.image[from..from + self.width])
+        let from = self.layout.place(number as usize) + 1;
+        Some(&self.image[from..from + self.layout.width])
     }
 }
 
 impl<'a> Device for Log<'a> {
     ghost code = { Layer.Log };
 
-    ghost meaning = { λ s. log_of s.image.now s.blocks s.width s.count };
+    ghost meaning = { λ s. log_of s.image.now s.layout.blocks s.layout.width s.count };
 
-    ghost fit = { λ s. fit s.image.now s.blocks s.width s.count s.sound };
+    ghost fit = { λ s. fit s.image.now s.layout.blocks s.layout.width s.count s.sound };
 
     fn layer(&self) -> Layer {
         Layer::Log
     }
 
     fn blocks(&self) -> u32 {
-        self.blocks
+        self.layout.blocks
     }
 
     fn width(&self) -> u32 {
-        self.width as u32
+        self.layout.width as u32
     }
 
     fn left(&self) -> (u32, LayerMark) {
-        let left = capacity(self.image.len(), self.width) - self.count;
+        let left = self.layout.capacity(self.image.len()) - self.count;
         (left as u32, Layer::Log.own())
     }
 
@@ -247,11 +254,11 @@ impl<'a> Device for Log<'a> {
 
     fn write(&mut self, block: u32, words: &[u32]) -> Result<(), DeviceFault> {
         self.admit(block, words.len())?;
-        if self.count >= capacity(self.image.len(), self.width) {
+        if self.count >= self.layout.capacity(self.image.len()) {
             return Err(DeviceFault::Worn(Layer::Log.own()));
         }
-        let from = place(self.width, self.count);
-        let to = from + self.width + 1;
+        let from = self.layout.place(self.count);
+        let to = from + self.layout.width + 1;
         write_record(&mut self.image[from..to], Kind::Record.word(block), words);
         self.index[block as usize] = Some(self.count as u32);
         self.count += 1;

@@ -10,4 +10,4 @@ slice_bounds-result-end c =
     let i = c.in_ok-number.number in
     let there : c.args.block < length index = omega (arith, s.indexed.long, c.requires) in
     let low : i < s.count = s.indexed.within c.args.block i c.requires (get_or_default index c.args.block None c.index.result.now there ∙ sym c.index.ensures ∙ c.in_ok-number.was) in
-    omega (arith, rows i s.count (s.width + 1) low, s.sound.room, c.place-from.ensures)
+    omega (arith, rows i s.count (s.layout.width + 1) low, s.sound.room, c.place-from.ensures)

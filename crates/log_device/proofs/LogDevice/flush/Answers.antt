@@ -10,8 +10,8 @@ pub invariant_of-self : goal.invariant_of-self
 invariant_of-self c =
     let s = c.args.self.now in
     let img = s.image.now in
-    let n = s.blocks in
-    let w = s.width in
+    let n = s.layout.blocks in
+    let w = s.layout.width in
     let k = s.count in
     let index = vec_items s.index in
     record {
@@ -25,6 +25,6 @@ returns c =
     let s = c.args.self.now in
     let img = s.image.now in
     record {
-      after = subst (λ x. log_of (set img 0 x) s.blocks s.width s.count ≡ flushed (log_of img s.blocks s.width s.count)) (sym c.word.ensures)
-          (flush_after img s.blocks s.width s.count s.sound);
+      after = subst (λ x. log_of (set img 0 x) s.layout.blocks s.layout.width s.count ≡ flushed (log_of img s.layout.blocks s.layout.width s.count)) (sym c.word.ensures)
+          (flush_after img s.layout.blocks s.layout.width s.count s.sound);
     }

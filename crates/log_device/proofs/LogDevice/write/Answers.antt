@@ -20,29 +20,29 @@ worn e = cc
 pub returns-then-self-capacity-clause-answer : goal.returns-then-self-capacity-clause-answer
 returns-then-self-capacity-clause-answer c =
     let s = c.args.self.now in
-    let m = log_of s.image.now s.blocks s.width s.count in
-    let t = admitted_at s.image.now s.blocks s.width s.count c.args.block (length c.args.words.now) (sym c.in_ok-admit.was ∙ c.admit.ensures) in
-    let none : m.left ≤ 0 = omega (arith, length-map-range_with_len (record_at s.width s.image.now) 0 s.count, c.capacity.ensures, c.if-self-capacity.true) in
+    let m = log_of s.image.now s.layout.blocks s.layout.width s.count in
+    let t = admitted_at s.image.now s.layout.blocks s.layout.width s.count c.args.block (length c.args.words.now) (sym c.in_ok-admit.was ∙ c.admit.ensures) in
+    let none : m.left ≤ 0 = omega (arith, length-map-range_with_len (record_at s.layout.width s.image.now) 0 s.count, c.capacity.ensures, c.if-self-capacity.true) in
     worn c.own.ensures ∙ sym (writing_at Log m c.args.block (length c.args.words.now) t.0 (simp length-map-range_with_len t.1) ∙ spending_worn m none)
 
 pub word-requires : goal.word-requires
 word-requires c =
     let s = c.args.self.now in
-    let t = admitted_at s.image.now s.blocks s.width s.count c.args.block (length c.args.words.now) (sym c.in_ok-admit.was ∙ c.admit.ensures) in
-    omega (arith, t.1, s.sound.few)
+    let t = admitted_at s.image.now s.layout.blocks s.layout.width s.count c.args.block (length c.args.words.now) (sym c.in_ok-admit.was ∙ c.admit.ensures) in
+    omega (arith, t.1, s.sound.limits.few)
 
 pub index_mut-requires : goal.index_mut-requires
 index_mut-requires c =
     let s = c.args.self.now in
-    let t = admitted_at s.image.now s.blocks s.width s.count c.args.block (length c.args.words.now) (sym c.in_ok-admit.was ∙ c.admit.ensures) in
+    let t = admitted_at s.image.now s.layout.blocks s.layout.width s.count c.args.block (length c.args.words.now) (sym c.in_ok-admit.was ∙ c.admit.ensures) in
     omega (arith, t.1, s.indexed.long)
 
 pub invariant_of-self : goal.invariant_of-self
 invariant_of-self c =
     let s = c.args.self.now in
     let img = s.image.now in
-    let n = s.blocks in
-    let w = s.width in
+    let n = s.layout.blocks in
+    let w = s.layout.width in
     let k = s.count in
     let b = c.args.block in
     let ws = c.args.words.now in
@@ -68,8 +68,8 @@ pub returns-clause-after : goal.returns-clause-after
 returns-clause-after c =
     let s = c.args.self.now in
     let img = s.image.now in
-    let n = s.blocks in
-    let w = s.width in
+    let n = s.layout.blocks in
+    let w = s.layout.width in
     let k = s.count in
     let b = c.args.block in
     let ws = c.args.words.now in
@@ -85,7 +85,7 @@ returns-clause-after c =
 pub returns-clause-answer : goal.returns-clause-answer
 returns-clause-answer c =
     let s = c.args.self.now in
-    let m = log_of s.image.now s.blocks s.width s.count in
-    let t = admitted_at s.image.now s.blocks s.width s.count c.args.block (length c.args.words.now) (sym c.in_ok-admit.was ∙ c.admit.ensures) in
-    let some : 0 < m.left = omega (arith, length-map-range_with_len (record_at s.width s.image.now) 0 s.count, c.capacity.ensures, c.if-self-capacity.false) in
+    let m = log_of s.image.now s.layout.blocks s.layout.width s.count in
+    let t = admitted_at s.image.now s.layout.blocks s.layout.width s.count c.args.block (length c.args.words.now) (sym c.in_ok-admit.was ∙ c.admit.ensures) in
+    let some : 0 < m.left = omega (arith, length-map-range_with_len (record_at s.layout.width s.image.now) 0 s.count, c.capacity.ensures, c.if-self-capacity.false) in
     sym (writing_at Log m c.args.block (length c.args.words.now) t.0 (simp length-map-range_with_len t.1) ∙ spending_ok m some)

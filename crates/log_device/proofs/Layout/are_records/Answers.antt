@@ -4,7 +4,7 @@ use Rattle.std.specs.Slice.Iter.{chunks_exact_rest, chunks_exact_size}
 use Rattle.std.specs.Iterator.Runs.{IsChunksExactRun}
 use Rattle.log_device.specs.Log.{IsRecord}
 use Rattle.log_device.proofs.Chunks.{chunk_is_one, chunk_word, chunks}
-use Rattle.log_device.proofs.are_records.Goals as goal
+use Rattle.log_device.proofs.Layout.are_records.Goals as goal
 
 test : (r : Bool) {A B C : Type 0} → (A → C) → (B → C → ⊥) → MatchBool r A B → MatchBool r C (C → ⊥)
 test true f g h = f h
@@ -21,7 +21,7 @@ both (Some x) p q f = f x p q
 pub returns : goal.returns
 returns c =
     let img = c.args.image.now in
-    let w = c.args.width in
+    let w = c.args.self.width in
     let k = c.args.count in
     let room = c.requires.within in
     let r = c.all.ensures.runs in
@@ -33,9 +33,9 @@ returns c =
     subst (λ n. IsChunksExactRun p n records) size (subst (IsChunksExactRun p (chunks_exact_size p.from)) rest (c.chunks_exact.ensures.runs p p.seen (omega (arith, size)))) in
     test c.all.result
     (λ h j low. here (p.at j) _ (p.reads j c.args.image (omega (arith, u.1 h.0, chunks img w k room))) (u.2 j) (h.1 (λ a r f e. search rules) j)
-    (λ x q t. (let is : IsRecord c.args.blocks (get_or x.now 0 0) = search rules in subst (IsRecord c.args.blocks) (chunk_word img w k room j x.now q.2.0 q.0) is)))
+    (λ x q t. (let is : IsRecord c.args.self.blocks (get_or x.now 0 0) = search rules in subst (IsRecord c.args.self.blocks) (chunk_word img w k room j x.now q.2.0 q.0) is)))
     (λ h a. (let one = h (λ a r f e. search rules) in
     both (p.at one.0) (u.2 one.0) one.2
-    (λ x q t. (let no : IsRecord c.args.blocks (get_or x.now 0 0) → ⊥ = search rules in
-    no (subst (IsRecord c.args.blocks) (sym (chunk_word img w k room one.0 x.now q.2.0 q.0)) (a one.0 (chunk_is_one img w k room one.0 x.now q.2.0 q.0)))))))
+    (λ x q t. (let no : IsRecord c.args.self.blocks (get_or x.now 0 0) → ⊥ = search rules in
+    no (subst (IsRecord c.args.self.blocks) (sym (chunk_word img w k room one.0 x.now q.2.0 q.0)) (a one.0 (chunk_is_one img w k room one.0 x.now q.2.0 q.0)))))))
     r.2

@@ -1,26 +1,26 @@
-use Rattle.std.proofs.Common.{◌≡◌, ◌+◌, ◌++◌, ◌<◌, ◌≤◌, ◌^◌, Some, length, set, vec_items, sym, ap, ◌∙◌, subst, arith}
+use Rattle.std.proofs.Common.{◌≡◌, ◌+◌, ◌++◌, ◌<◌, ◌≤◌, ◌^◌, Some, length, set, vec_items, sym, ap, rules, ◌∙◌, subst, arith}
 use Rattle.std.specs.Slice.Iter.{chunks_exact_rest}
 use Rattle.std.specs.Iterator.Adapters.{enumerate_source}
 use Rattle.std.proofs.ByRecursion.{All-from_get_or}
 use Rattle.std.proofs.lemmas.List.{length_push}
 use Rattle.word.specs.Words.{payload_of}
-use Rattle.log_device.specs.Log.{Indexed, Formed, Shaped, capacity, place_of, flushed_in, record_at}
+use Rattle.log_device.specs.Log.{Indexed, Formed, capacity, place_of, flushed_in, record_at}
 use Rattle.log_device.proofs.Facts.{room_of}
 use Rattle.log_device.proofs.Indexes.{index_more}
 use Rattle.log_device.proofs.Chunks.{left_of, no_more, is_one, rest_left, word_at}
-use Rattle.log_device.proofs.read_index.Goals as goal
+use Rattle.log_device.proofs.Layout.read_index.Goals as goal
 
 pub overflow_cast-number : goal.overflow_cast-number
 overflow_cast-number c =
     let img = c.args.image.now in
-    let w = c.args.width in
-    let n = c.args.blocks in
+    let w = c.args.self.width in
+    let n = c.args.self.blocks in
     let k = c.flushed-count.result in
     let i = length c.loop-number.yielded in
     let f : Formed img n w = c.if-not-is_formed.ensures in
     let h : k ≤ capacity (length img) w = omega (arith, c.flushed-count.ensures, f.within) in
-    let s : Shaped (length img) n w = c.if-not-is_shaped.ensures in
-    let room : place_of w k ≤ length img = room_of k w (length img) s.long h in
+    let long : 1 ≤ length img = search rules in
+    let room : place_of w k ≤ length img = room_of k w (length img) long h in
     let step = c.in-Some.ensures.steps.0.1 in
     let cut : left_of img w k i ≡ c.in-Some.record.now ++ chunks_exact_rest (enumerate_source c.next.new.self) = sym c.loop-number.invariant.rest ∙ step.0 in
     let size : length c.in-Some.record.now ≡ w + 1 = step.1 ∙ c.loop-number.invariant.size in
@@ -30,14 +30,14 @@ overflow_cast-number c =
 pub index_mut-requires : goal.index_mut-requires
 index_mut-requires c =
     let img = c.args.image.now in
-    let w = c.args.width in
-    let n = c.args.blocks in
+    let w = c.args.self.width in
+    let n = c.args.self.blocks in
     let k = c.flushed-count.result in
     let i = length c.loop-number.yielded in
     let f : Formed img n w = c.if-not-is_formed.ensures in
     let h : k ≤ capacity (length img) w = omega (arith, c.flushed-count.ensures, f.within) in
-    let s : Shaped (length img) n w = c.if-not-is_shaped.ensures in
-    let room : place_of w k ≤ length img = room_of k w (length img) s.long h in
+    let long : 1 ≤ length img = search rules in
+    let room : place_of w k ≤ length img = room_of k w (length img) long h in
     let step = c.in-Some.ensures.steps.0.1 in
     let cut : left_of img w k i ≡ c.in-Some.record.now ++ chunks_exact_rest (enumerate_source c.next.new.self) = sym c.loop-number.invariant.rest ∙ step.0 in
     let size : length c.in-Some.record.now ≡ w + 1 = step.1 ∙ c.loop-number.invariant.size in
@@ -47,14 +47,14 @@ index_mut-requires c =
 pub loop-number-preserved : goal.loop-number-preserved
 loop-number-preserved c =
     let img = c.args.image.now in
-    let w = c.args.width in
-    let n = c.args.blocks in
+    let w = c.args.self.width in
+    let n = c.args.self.blocks in
     let k = c.flushed-count.result in
     let i = length c.loop-number.yielded in
     let f : Formed img n w = c.if-not-is_formed.ensures in
     let h : k ≤ capacity (length img) w = omega (arith, c.flushed-count.ensures, f.within) in
-    let s : Shaped (length img) n w = c.if-not-is_shaped.ensures in
-    let room : place_of w k ≤ length img = room_of k w (length img) s.long h in
+    let long : 1 ≤ length img = search rules in
+    let room : place_of w k ≤ length img = room_of k w (length img) long h in
     let step = c.in-Some.ensures.steps.0.1 in
     let cut : left_of img w k i ≡ c.in-Some.record.now ++ chunks_exact_rest (enumerate_source c.next.new.self) = sym c.loop-number.invariant.rest ∙ step.0 in
     let size : length c.in-Some.record.now ≡ w + 1 = step.1 ∙ c.loop-number.invariant.size in
@@ -78,17 +78,17 @@ loop-number-preserved c =
 pub returns : goal.returns
 returns c =
     let img = c.args.image.now in
-    let w = c.args.width in
-    let n = c.args.blocks in
+    let w = c.args.self.width in
+    let n = c.args.self.blocks in
     let k = c.flushed-count.result in
     let i = length c.loop-number.yielded in
     let f : Formed img n w = c.if-not-is_formed.ensures in
     let h : k ≤ capacity (length img) w = omega (arith, c.flushed-count.ensures, f.within) in
-    let s : Shaped (length img) n w = c.if-not-is_shaped.ensures in
-    let room : place_of w k ≤ length img = room_of k w (length img) s.long h in
+    let long : 1 ≤ length img = search rules in
+    let room : place_of w k ≤ length img = room_of k w (length img) long h in
     let low : length (left_of img w k i) < w + 1 = omega (arith, ap length c.loop-number.invariant.rest, c.in-None.ensures.steps.0.1.0, c.loop-number.invariant.size) in
     let all : i ≡ flushed_in img = omega (arith, c.loop-number.invariant.within, no_more img w k room i low, c.flushed-count.ensures) in
     record {
-      formed = (s, f, subst (λ m. Indexed img n w m (vec_items c.loop-number.index)) all c.loop-number.invariant.index);
+      formed = (record { long = long; limits = c.args.self.limits }, f, subst (λ m. Indexed img n w m (vec_items c.loop-number.index)) all c.loop-number.invariant.index);
       fits = All-from_get_or (λ x. x < 2 ^ 32) img 0 (λ j l. omega (arith, c.type_inv.image j));
     }
