@@ -2,6 +2,7 @@
 #![tactic(auto)]
 
 mod angle;
+mod around;
 mod kinds;
 mod making;
 mod pair;
@@ -10,7 +11,9 @@ mod summary;
 mod summing;
 
 pub use angle::{angle_at, angle_between, angle_by};
+pub use around::Around;
 pub use kinds::{Count, Extent, Span, Sum};
+pub use making::stored_angle;
 pub use pair::Pair;
 pub use row::{Row, RowFault};
 pub use summary::Summary;
