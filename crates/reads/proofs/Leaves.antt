@@ -10,21 +10,22 @@ use Rattle.tree.proofs.Over.{cond_map}
 use Rattle.table.specs.Angles.{later, up_to, past}
 use Rattle.page.specs.View.{pair}
 use Rattle.page.specs.declared.page.Entry.{Entry}
-use Rattle.model.specs.TreeBlocks.{angle, Each}
+use Rattle.table.specs.Rows.{angle_of}
+use Rattle.model.specs.TreeBlocks.{Each}
 use Rattle.reads.specs.Sound.{Valid}
 
 -- the rows of entries
 abbrev pub rows : List Entry → List (ℕ × ℤ)
-rows xs = map_e angle (map pair xs)
+rows xs = map_e angle_of (map pair xs)
 
 -- the row of an entry
 abbrev pub row : Entry → ℕ × ℤ
-row e = (e.speed, angle e.value)
+row e = (e.speed, angle_of e.value)
 
-pub look_find : (s : ℕ) (xs : List Entry) → look s (rows xs) ≡ option_map (λ (e : Entry). angle e.value) (find (λ (e : Entry). eqb s e.speed) xs)
+pub look_find : (s : ℕ) (xs : List Entry) → look s (rows xs) ≡ option_map (λ (e : Entry). angle_of e.value) (find (λ (e : Entry). eqb s e.speed) xs)
 look_find s [] = refl
 look_find s (e ∷ r) =
-    sym (cond_map (option_map (λ (e : Entry). angle e.value)) (eqb s e.speed) (Some e) (find (λ (e : Entry). eqb s e.speed) r) (Some (angle e.value)) (look s (rows r)) refl (sym (look_find s r)))
+    sym (cond_map (option_map (λ (e : Entry). angle_of e.value)) (eqb s e.speed) (Some e) (find (λ (e : Entry). eqb s e.speed) r) (Some (angle_of e.value)) (look s (rows r)) refl (sym (look_find s r)))
 
 pub valid_find : (test : Entry → Bool) (xs : List Entry) (e : Entry) → Each Valid (map pair xs) → find test xs ≡ Some e → Valid (pair e)
 valid_find test [] e v h = absurd (none-some e h)

@@ -2,12 +2,12 @@
 ghost use Rattle.std.specs.Prelude.{◌≡◌};
 ghost use Rattle.std.specs.Option.{option_map};
 ghost use Rattle.device.specs.Meaning.{current_at};
-ghost use Rattle.table.specs.Rows.{pair_of};
+ghost use Rattle.table.specs.Rows.{pair_of, angle_of};
 ghost use Rattle.table.specs.Angles.{up_to, past, angle_at};
 ghost use Rattle.tree.specs.Node.{map_e};
 ghost use Rattle.tree.specs.Reads.{look};
 ghost use Rattle.page.specs.View.{pair, entries};
-ghost use Rattle.model.specs.TreeBlocks.{angle, Each};
+ghost use Rattle.model.specs.TreeBlocks.{Each};
 ghost use Rattle.reads.specs.Rows.{rows_on, GoodOn};
 ghost use Rattle.reads.specs.Sound.{Valid};
 ghost use Rattle.reads.specs.Descent.{Beside, rows_beside};
@@ -22,7 +22,7 @@ use table::{Row, angle_by};
 // The row of an entry of a leaf.
 pub fn row_of(entry: Entry) -> Row
     requires { Valid (pair entry) }
-    ensures { pair_of result ≡ (entry.speed, angle entry.value) }
+    ensures { pair_of result ≡ (entry.speed, angle_of entry.value) }
 {
     Row::from_stored(entry.speed, entry.value)
 }
@@ -30,7 +30,7 @@ pub fn row_of(entry: Entry) -> Row
 // The angle of a leaf's row of a speed, if there is one.
 fn look_in(leaf: &Page, speed: u32) -> Option<i32>
     requires { Each Valid (entries leaf.now) }
-    ensures { result ≡ look speed (map_e angle (entries leaf.now)) }
+    ensures { result ≡ look speed (map_e angle_of (entries leaf.now)) }
 {
     let entry = leaf.entries.iter().find(|entry| speed == entry.speed)?;
     Some(row_of(*entry).angle)
@@ -49,8 +49,8 @@ pub fn get<D: Device>(store: &mut Store<D>, root: Root, speed: u32) -> Option<i3
 // The last row of a leaf at or below a speed, and the first above it.
 fn around(leaf: &Page, speed: u32) -> (Option<Row>, Option<Row>)
     requires { Each Valid (entries leaf.now) }
-    ensures before { option_map pair_of result.0 ≡ up_to speed (map_e angle (entries leaf.now)) }
-    ensures after { option_map pair_of result.1 ≡ past speed (map_e angle (entries leaf.now)) }
+    ensures before { option_map pair_of result.0 ≡ up_to speed (map_e angle_of (entries leaf.now)) }
+    ensures after { option_map pair_of result.1 ≡ past speed (map_e angle_of (entries leaf.now)) }
 {
     let mut before: Option<Row> = None;
     for entry in leaf.entries.iter() {
@@ -71,8 +71,8 @@ fn nearest<D: Device>(
 ) -> (Option<Row>, Option<Row>)
     requires { Beside (current_at store.old.0) speed block }
     ensures kept { store.new ≡ store.old }
-    ensures before { option_map pair_of result.0 ≡ up_to speed (map_e angle (rows_beside (current_at store.old.0) block)) }
-    ensures after { option_map pair_of result.1 ≡ past speed (map_e angle (rows_beside (current_at store.old.0) block)) }
+    ensures before { option_map pair_of result.0 ≡ up_to speed (map_e angle_of (rows_beside (current_at store.old.0) block)) }
+    ensures after { option_map pair_of result.1 ≡ past speed (map_e angle_of (rows_beside (current_at store.old.0) block)) }
 {
     match block {
         Some(block) => around(&descend(store, block, speed).leaf, speed),

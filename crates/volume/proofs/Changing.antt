@@ -14,7 +14,7 @@ use Rattle.tree.proofs.Puts.{five_high}
 use Rattle.tree.proofs.Laid.{same_rule}
 use Rattle.table.specs.Rows.{payload_of}
 use Rattle.model.specs.Plain.{first, place}
-use Rattle.model.specs.TreeBlocks.{Tree, Change, Change.begin, Change.puts, Change.takes, changed_on, new_blocks, bare_tree, root_of, tree_at, top_level, raw, elem, Each, Good, AllGood, Stored}
+use Rattle.model.specs.TreeBlocks.{Tree, Change, Change.begin, Change.puts, Change.takes, changed_on, new_blocks, bare_tree, root_of, tree_at, top_level, elem, Each, Good, AllGood, Stored}
 use Rattle.model.specs.Model.{used, free, height, needs, source, tree_of, new_tree}
 use Rattle.model.specs.World.{Tables, Mode.mounted, placed, model_of, shape, trees, FreeWrite, Changed, sizes}
 use Rattle.model.specs.Reach.{rootings}
@@ -27,10 +27,6 @@ use Rattle.model.proofs.Reach.{use_is_reach, free_by_counts}
 use Rattle.edit.specs.Edited.{Counting, Editable, WritesFree, given_up, Edited}
 use Rattle.volume.specs.Kept.{Kept, lacking}
 use Rattle.volume.proofs.Places.{root_in, others, roots_split, roots_placed, few_rootings}
-
-pub raw_payload : (a : ℤ) → payload_of a ≡ raw a
-raw_payload (pos n) = refl
-raw_payload (negsuc n) = omega arith
 
 -- a tree is at most five blocks high
 pub five : (n : ℕ) (c : ℕ → Content) (r : Root) → Good n c r → r.0 ≤ 5
