@@ -49,20 +49,23 @@ sizes_parts n w h =
     let b = and_parts (leb 32 w) (leb w 40) p.1 in
     (leb-true 16 n a.0, leb-true n 4096 a.1, leb-true 32 w b.0, leb-true w 40 b.1)
 
+-- a sound tree is at most five blocks high
+pub good_low : (n : ℕ) (c : ℕ → Content) (r : Root) → Good n c r → r.0 ≤ 5
+unfolding tree_at
+good_low n c r g = low r.0 (five_high ℕ ℕ (tree_at c r).0 (tree_at c r).1 ((same_rule ℕ ℕ (tree_at c r).0 (tree_at c r).1).1 g.fit.laid))
+  where
+    low : (h : ℕ) → top_level h ≤ 4 → h ≤ 5
+    low zero q = omega arith
+    low (suc l) q = omega arith
+
 -- a sound root fits in a slot
 good_rooted : (n : ℕ) (c : ℕ → Content) (r : Root) → Good n c r → rooted n (Some r) ≡ true
 unfolding tree_at
 good_rooted n c r g =
     let f = g.fit in
-    let low : top_level r.0 ≤ 4 = five_high ℕ ℕ (tree_at c r).0 (tree_at c r).1 ((same_rule ℕ ℕ (tree_at c r).0 (tree_at c r).1).1 f.laid) in
-    let h5 : r.0 ≤ 5 = height_low r.0 low in
     and_from (leb 1 r.0 && leb r.0 5) (leb 2 r.1 && ltb r.1 n)
-    (and_from (leb 1 r.0) (leb r.0 5) (le-leb 1 r.0 g.height) (le-leb r.0 5 h5))
+    (and_from (leb 1 r.0) (leb r.0 5) (le-leb 1 r.0 g.height) (le-leb r.0 5 (good_low n c r g)))
     (and_from (leb 2 r.1) (ltb r.1 n) (le-leb 2 r.1 f.inside.0.0) (lt-ltb r.1 n f.inside.0.1))
-  where
-    height_low : (h : ℕ) → top_level h ≤ 4 → h ≤ 5
-    height_low zero q = omega arith
-    height_low (suc l) q = omega arith
 
 goods_rooted : (n : ℕ) (c : ℕ → Content) (t : Table) → Goods n c t → every (rooted n) t ≡ true
 goods_rooted n c [] g = refl

@@ -56,7 +56,8 @@ find_elem s (r ∷ rs) = go (eqb s r.0) (find_elem s rs)
     go true e = refl
     go false e = e
 
-holds_find : (M : Model) (n s : ℕ) → holds (shape_of M) n s ≡ is_some (look s (map_at (maps_of M.working) n))
+-- whether a clone has a row
+pub holds_find : (M : Model) (n s : ℕ) → holds (shape_of M) n s ≡ is_some (look s (map_at (maps_of M.working) n))
 holds_find M n s =
     ap (λ f. elem s (keys_of f)) (sym (form_at_lem M n)) ∙ ap (elem s) (keys_form (tree_of M n)) ∙ find_elem s (rows_of (tree_of M n)) ∙ ap (λ rs. is_some (look s rs)) (sym (map_at_lem M n))
 
