@@ -1,10 +1,10 @@
 -- The parts that stand for a child have words.
-use Rattle.std.proofs.Common.{◌≡◌, ℕ, ◌+◌, ◌<◌, ◌≤◌, eqb, ltb, List, [], ◌∷◌, map, length, get_or, take, drop, sym, ap, subst, arith, length-take, length-drop}
+use Rattle.std.proofs.Common.{◌≡◌, ℕ, ◌+◌, ◌<◌, ◌≤◌, eqb, ltb, List, [], ◌∷◌, map, length, take, drop, sym, subst, arith, length-take, length-drop}
 use Rattle.std.proofs.lemmas.List.{get_or-take, get_or-drop}
 use Rattle.std.proofs.lemmas.Bool.{cond_both}
 use Rattle.tree.specs.Node.{first}
 use Rattle.page.specs.Block.{Layout}
-use Rattle.page.specs.View.{pair, view, entries}
+use Rattle.page.specs.View.{pair, entries}
 use Rattle.page.specs.declared.page.Page.{Page}
 use Rattle.page.specs.declared.page.Entry.{Entry}
 use Rattle.page.proofs.Pages.{laid_out}
