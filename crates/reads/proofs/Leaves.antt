@@ -31,7 +31,7 @@ valid_find test [] e v h = absurd (none-some e h)
 valid_find test (x ∷ r) e v h =
     cond_both (test x) (Some x) (find test r) (λ (o : Option Entry). o ≡ Some e → Valid (pair e)) (λ _ q. subst (λ (y : Entry). Valid (pair y)) (same_Some x e q) v.0) (λ _ q. valid_find test r e v.1 q) h
 
-pub valid_at : (xs : List Entry) (i : ℕ) (e : Entry) → Each Valid (map pair xs) → i < length xs → e ≡ get_or xs i e → Valid (pair e)
+valid_at : (xs : List Entry) (i : ℕ) (e : Entry) → Each Valid (map pair xs) → i < length xs → e ≡ get_or xs i e → Valid (pair e)
 valid_at [] i e v h q = absurd (not-suc-le-zero h)
 valid_at (x ∷ r) zero e v h q = subst (λ (y : Entry). Valid (pair y)) (sym q) v.0
 valid_at (x ∷ r) (suc i) e v h q = valid_at r i e v.1 (omega arith) q
@@ -43,3 +43,6 @@ pub record At (xs : List Entry) (i : ℕ) (e : Entry) : Type 0 where
 
 pub at_item : (xs ys : List Entry) (i : ℕ) (e : Entry) → ys ≡ xs → i < length ys → e ≡ get_or ys i e → At xs i e
 at_item xs ys i e q h k = record { within = omega (arith, ap length q); is = k ∙ ap (λ (z : List Entry). get_or z i e) q }
+
+pub valid_item : (xs ys : List Entry) (i : ℕ) (e : Entry) → Each Valid (map pair xs) → ys ≡ xs → i < length ys → e ≡ get_or ys i e → Valid (pair e)
+valid_item xs ys i e v q h k = let a = at_item xs ys i e q h k in valid_at xs i e v a.within a.is

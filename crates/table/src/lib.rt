@@ -34,16 +34,7 @@ mod tests {
 
     #[test]
     fn angles_between_rows(rt: HostRuntime) {
-        let rows = [
-            Row {
-                speed: 400,
-                angle: -100,
-            },
-            Row {
-                speed: 1_200,
-                angle: 250,
-            },
-        ];
+        let rows = two_rows();
         assert!(rt; angle_at(&rows, 399) == Some(-100));
         assert!(rt; angle_at(&rows, 400) == Some(-100));
         assert!(rt; angle_at(&rows, 800) == Some(75));
