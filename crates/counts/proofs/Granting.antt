@@ -1,37 +1,38 @@
--- The blocks of a grant, as they are found, taken and given back.
-use Rattle.std.proofs.Common.{◌≡◌, ℕ, suc, ◌+◌, ◌-◌, ◌<◌, Bool, true, false, cond, ltb, List, [], ◌∷◌, ◌++◌, length, get_or, drop, sym, refl, ap, ◌∙◌, ap₂, arith}
-use Rattle.std.proofs.lemmas.List.{append_assoc}
-use Rattle.std.specs.List.{enumerate_from}
-use Rattle.std.proofs.lemmas.List.{get_or-drop, get_or_read, length-drop}
-use Rattle.std.proofs.lemmas.List.FromFn.{length-enumerate_from, get_or-enumerate_from}
+-- The free blocks, as they are found one after the other.
+use Rattle.std.proofs.Common.{◌≡◌, ℕ, zero, suc, ◌+◌, ◌-◌, ◌<◌, ◌≤◌, List, [], ◌∷◌, ◌++◌, length, get_or, drop, sym, refl, ap, ◌∙◌, ap₂, arith}
+use Rattle.std.specs.List.{AllWithin, HoldsAt}
+use Rattle.std.proofs.lemmas.Bool.{lt-ltb, le-ltb}
+use Rattle.std.proofs.lemmas.List.{append_assoc, append-nil, get_or-drop, length-drop}
 use Rattle.counts.specs.Counts.{spare, free_blocks}
 
--- block b, after those below it
-pub one_on : (cs : List ℕ) (b N : ℕ) → b < N → spare (N - b) b cs ≡ cond (ltb 0 (get_or cs b 0)) [] (b ∷ []) ++ spare (N - (b + 1)) (b + 1) cs
-one_on cs b N lt =
-    let k : N - b ≡ suc (N - (b + 1)) = omega arith in
-    let more : suc b ≡ b + 1 = omega arith in
-    ap (λ n. spare n b cs) k ∙ ap (λ x. cond (ltb 0 (get_or cs b 0)) (spare (N - (b + 1)) x cs) (b ∷ spare (N - (b + 1)) x cs)) more
-    ∙ go (ltb 0 (get_or cs b 0))
-  where
-    go : (t : Bool) → cond t (spare (N - (b + 1)) (b + 1) cs) (b ∷ spare (N - (b + 1)) (b + 1) cs) ≡ cond t [] (b ∷ []) ++ spare (N - (b + 1)) (b + 1) cs
-    go true = refl
-    go false = refl
+module _ (cs : List ℕ) where
+  -- of k blocks from b on, the one at `at` is the first that nothing refers to
+  spare_first : (k b j at : ℕ) → at ≡ b + j → j < k → ((i : ℕ) → b ≤ i → i < at → 0 < get_or cs i 0) → get_or cs at 0 ≡ 0 → spare k b cs ≡ at ∷ spare (k - (j + 1)) (at + 1) cs
+  spare_first zero b j at e h before here = absurd (omega arith)
+  spare_first (suc k) b zero at e h before here =
+      let same : at ≡ b = omega arith in
+      rw (le-ltb 0 (get_or cs b 0) (omega (arith, ap (λ (x : ℕ). get_or cs x 0) same, here))) (ap₂ (λ (x y : ℕ). x ∷ spare k y cs) (sym same) (omega arith) ∙ ap (λ n. at ∷ spare n (at + 1) cs) (omega arith))
+  spare_first (suc k) b (suc j) at e h before here =
+      rw (lt-ltb 0 (get_or cs b 0) (before b (omega arith) (omega arith)))
+      (spare_first k (suc b) j at (omega arith) (omega arith) (λ i l m. before i (omega arith) m) here ∙ ap (λ n. at ∷ spare n (at + 1) cs) (omega arith))
 
--- the next block, seen
-pub next_block : (cs xs ys : List ℕ) (i : ℕ) → i + 2 < length cs → free_blocks cs ≡ xs ++ spare (length cs - (i + 2)) (i + 2) cs → ys ≡ xs ++ cond (ltb 0 (get_or cs (i + 2) 0)) [] ((i + 2) ∷ [])
-    → free_blocks cs ≡ ys ++ spare (length cs - (i + 1 + 2)) (i + 1 + 2) cs
-next_block cs xs ys i lt e p =
-    let b : ℕ = i + 2 in
-    let R : List ℕ = spare (length cs - (b + 1)) (b + 1) cs in
-    let n : b + 1 ≡ i + 1 + 2 = omega arith in
-    e ∙ ap (λ r. xs ++ r) (one_on cs b (length cs) lt) ∙ sym (append_assoc xs (cond (ltb 0 (get_or cs b 0)) [] (b ∷ [])) R)
-    ∙ ap (λ r. r ++ R) (sym p) ∙ ap (λ m. ys ++ spare (length cs - m) m cs) n
+  -- there is none
+  spare_none : (k b : ℕ) → ((i : ℕ) → b ≤ i → i < b + k → 0 < get_or cs i 0) → spare k b cs ≡ []
+  spare_none zero b all = refl
+  spare_none (suc k) b all = rw (lt-ltb 0 (get_or cs b 0) (all b (omega arith) (omega arith))) (spare_none k (suc b) (λ i l m. all i (omega arith) (omega arith)))
 
--- where a walk over the counts from block 2 on is
-pub at_block : (cs : List ℕ) (k b n : ℕ) → (k < length (drop 2 (enumerate_from 0 cs))) × ((b, n) ≡ get_or (drop 2 (enumerate_from 0 cs)) k (b, n)) → (k + 2 < length cs) × (b ≡ k + 2) × (n ≡ get_or cs (k + 2) 0)
-at_block cs k b n h =
-    let lt : k + 2 < length cs = omega (arith, h.0, length-drop 2 (enumerate_from 0 cs), length-enumerate_from 0 cs) in
-    let e : (b, n) ≡ (k + 2, get_or cs (k + 2) n)
-    = h.1 ∙ get_or-drop 2 (enumerate_from 0 cs) k (b, n) ∙ get_or-enumerate_from 0 cs (2 + k) (b, n) (omega arith) ∙ ap₂ (λ (i j : ℕ). (i, get_or cs j n)) (omega arith) (omega arith) in
-    (lt, ap (λ (p : ℕ × ℕ). p.0) e, get_or_read cs (k + 2) n lt (ap (λ (p : ℕ × ℕ). p.1) e) 0)
+  -- the counts from `next` on: what a search for a 0 there says of the free blocks, after those found before
+  module _ (xs : List ℕ) (next : ℕ) (within : next ≤ length cs) (these : free_blocks cs ≡ xs ++ spare (length cs - next) next cs) where
+    used : (j : ℕ) → AllWithin (λ c. 0 < c) (drop next cs) 0 j → (i : ℕ) → next ≤ i → i < next + j → 0 < get_or cs i 0
+    used j h i l m = let n : next + (i - next) ≡ i = omega arith in omega (arith, h (i - next) 0 (omega arith) (omega arith), get_or-drop next cs (i - next) 0, ap (λ (x : ℕ). get_or cs x 0) n)
+
+    pub found_next : (j : ℕ) → (j < length (drop next cs)) × HoldsAt (λ c. c ≡ 0) (drop next cs) j × AllWithin (λ c. 0 < c) (drop next cs) 0 j
+        → free_blocks cs ≡ (xs ++ (next + j) ∷ []) ++ spare (length cs - (next + j + 1)) (next + j + 1) cs
+    found_next j h =
+        these
+        ∙ ap (λ r. xs ++ r) (spare_first (length cs - next) next j (next + j) refl (omega (arith, h.0, length-drop next cs)) (used j h.2) (sym (get_or-drop next cs j 0) ∙ h.1 0)
+        ∙ ap (λ n. (next + j) ∷ spare n (next + j + 1) cs) (omega arith)) ∙ sym (append_assoc xs ((next + j) ∷ []) (spare (length cs - (next + j + 1)) (next + j + 1) cs))
+
+    pub found_none : AllWithin (λ c. 0 < c) (drop next cs) 0 (length (drop next cs)) → free_blocks cs ≡ xs
+    found_none h =
+        these ∙ ap (λ r. xs ++ r) (spare_none (length cs - next) next (λ i l m. used (length (drop next cs)) h i l (omega (arith, length-drop next cs)))) ∙ append-nil xs

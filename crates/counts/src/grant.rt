@@ -27,20 +27,15 @@ impl Grant {
         requires { (n ≤ 11) × ((2 ≤ vec_len counts.now.of) × (vec_len counts.now.of ≤ 4096)) }
         ensures { result ≡ lowest_free n counts.now.of.items }
     {
-        let mut found = ArrayVec::new();
-        for (block, count) in counts.of.iter().enumerate().skip(2) {
-            if found.len() == n {
-                return Some(Grant { blocks: found });
-            }
-            if *count == 0 {
-                found.push(block as u32);
-            }
+        let mut blocks = ArrayVec::new();
+        let mut next = 2;
+        for _ in 0..n {
+            let rest = &counts.of[next..];
+            let block = next + rest.iter().position(|count| *count == 0)?;
+            blocks.push(block as u32);
+            next = block + 1;
         }
-        if found.len() == n {
-            Some(Grant { blocks: found })
-        } else {
-            None
-        }
+        Some(Grant { blocks })
     }
 
     // The next block.

@@ -113,8 +113,17 @@ impl<D: Device> Store<D> {
         ensures state { self.new ≡ step (opening block) self.old }
     {
         let page = self.read_page(block);
-        self.counts.open(block, &page);
+        self.open_page(block, &page);
         page
+    }
+
+    // The same, where the page of the block was read before.
+    pub fn open_page(&mut self, block: u32, page: &Page)
+        requires owned { Owned self.old.0 self.old.1 block }
+        requires holds { block_at self.old.0 block ≡ Some (view page.now) }
+        ensures { self.new ≡ step (opening block) self.old }
+    {
+        self.counts.open(block, page);
     }
 
     // Writes a page to a block that nothing refers to; the references to its children go over into it, and one to it is held.

@@ -68,7 +68,6 @@ pub record Parts (q q₁ : State) (b s : ℕ) (child part : Block) : Type 0 wher
 pub record Linkable (q : State) (gs : List ℕ) (n child made : Block) : Type 0 where
   pub two : 2 ≤ length gs
   pub wide : 32 ≤ q.0.width
-  pub few : length q.1 ≤ 4096
   pub left : 2 ≤ q.0.left
   pub places : Open q.0 q.1 gs 0
   pub level : made.level ≡ child.level
@@ -167,7 +166,6 @@ module _ (m : Meaning) (cs gs : List ℕ) (n : Block) (s : ℕ) where
                 record {
                   two = omega (arith, ap length taken ∙ length-drop (2 * part.level) gs, part_level l es p, ap (λ (x : Block). x.level) p.is, enough);
                   wide = omega (arith, r₁.width, r₂.width, p.wide.0);
-                  few = omega (arith, r₁.counts, r₂.counts, p.few);
                   left = omega (arith, r₁.left, r₂.left, moves_writes gs s a l (chosen s t.1), p.left);
                   places = record {
                     left_on = omega (arith, r₁.blocks, r₂.blocks, pl.0, x);
@@ -177,6 +175,7 @@ module _ (m : Meaning) (cs gs : List ℕ) (n : Block) (s : ℕ) where
                     right_in = omega (arith, r₁.counts, r₂.counts, pr.1, y);
                     right_free = ap (λ (b : ℕ). get_or q₂.1 b 0) y ∙ far (get_or gs (2 * l + 1) 0) (λ i lt e. p.free.apart i (2 * l + 1) (omega arith) (omega arith) (sym e)) (p.free.count (2 * l + 1) (omega arith));
                     apart = λ e. p.free.apart (2 * l) (2 * l + 1) (omega arith) (omega arith) (sym x ∙ e ∙ y);
+                    few = omega (arith, r₁.counts, r₂.counts, p.few);
                   };
                   level = ap (λ (x : Block). x.level) M.is ∙ sym (ap (λ (x : Block). x.level) (child_is l es p));
                   above = omega (arith, ap (λ (x : Block). x.level) (child_is l es p), ap (λ (x : Block). x.level) p.is);

@@ -1,29 +1,15 @@
--- Pages in memory have words, and so have the halves of one.
-use Rattle.std.proofs.Common.{◌≡◌, ℕ, ◌+◌, ◌<◌, ◌≤◌, eqb, ltb, List, [], ◌∷◌, map, length, get_or, take, drop, sym, ap, subst, arith, length-take, length-drop}
+-- The parts that stand for a child have words.
+use Rattle.std.proofs.Common.{◌≡◌, ℕ, ◌+◌, ◌<◌, ◌≤◌, eqb, ltb, List, [], ◌∷◌, map, length, take, drop, sym, subst, arith, length-take, length-drop}
 use Rattle.std.proofs.lemmas.List.{get_or-take, get_or-drop}
 use Rattle.std.proofs.lemmas.Bool.{cond_both}
 use Rattle.tree.specs.Node.{first}
 use Rattle.page.specs.Block.{Layout}
-use Rattle.page.specs.View.{pair, view, entries}
+use Rattle.page.specs.View.{pair, entries}
 use Rattle.page.specs.declared.page.Page.{Page}
 use Rattle.page.specs.declared.page.Entry.{Entry}
-use Rattle.page.proofs.Pages.{entries_length, entries_at}
+use Rattle.page.proofs.Pages.{laid_out}
 use Rattle.counts.specs.Moves.{Laid}
 use Rattle.edit.specs.Plan.{page, parted, placed, links}
-
-nought : Entry
-nought = record { speed = 0; value = 0; small = (omega arith, omega arith) }
-
-pub laid_out : (p : Page) (w : ℕ) → 32 ≤ w → p.level < 5 → Layout w (view p)
-laid_out p w h k = record {
-  wide = h;
-  few = omega (arith, entries_length p, p.few.0);
-  low = k;
-  small = λ i l.
-      let e = entries_at p i nought (omega (arith, entries_length p)) in
-      let it : Entry = get_or p.entries.items i nought in
-      (omega (arith, ap (λ q. q.0) e, it.small.0), omega (arith, ap (λ q. q.1) e, it.small.1));
-}
 
 -- a page's first speed fits an entry
 pub first_small : (p : Page) → first (entries p) < 268435456

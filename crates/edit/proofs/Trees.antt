@@ -13,12 +13,12 @@ use Rattle.counts.specs.Counts.{one, occ, Counted, free_blocks}
 use Rattle.counts.specs.Moves.{Move, linking, State, state_of, step, run}
 use Rattle.counts.proofs.Opens.{recount}
 use Rattle.model.specs.TreeBlocks as model
-use Rattle.model.specs.TreeBlocks.{Change.puts, changed_on, new_blocks, block_of, root_of, Each}
+use Rattle.model.specs.TreeBlocks.{Change, Change.puts, changed_on, new_blocks, block_of, root_of, Each}
 use Rattle.model.proofs.TreeLaws.{grow_wf}
 use Rattle.edit.specs.Plan.{page, node_of, kids, Stored, chosen, parted, placed, put_n, moves, put_root_n}
 use Rattle.edit.specs.Able.{Ready, Able, Made}
 use Rattle.edit.specs.Kept.{Free, Stands}
-use Rattle.edit.specs.Edited.{Edited}
+use Rattle.edit.specs.Edited.{given_up, Edited}
 use Rattle.edit.proofs.States.{same_by, run_same, run_append}
 use Rattle.edit.proofs.Anyhow.{moves_writes}
 use Rattle.edit.proofs.Keeps.{keeps, link_counted, link_stored}
@@ -49,6 +49,25 @@ from_model m t a =
 -- what a free block is at the start of a call
 abbrev pub Spare : Meaning → List ℕ → ℕ → Type 0
 Spare m cs b = (2 ≤ b) × (b < blocks_of m) × (get_or cs b 0 ≡ 0)
+
+-- moves that leave the tree v, which the change d makes of r
+pub edited_by : (m : Meaning) (cs : List ℕ) (d : Change ℕ) (r : model.Tree) (h : ℕ → ℕ) → Counted (block_at m) cs (λ b. given_up d r b + h b)
+    → (v : model.Tree) (vs : List Move) → v ≡ changed_on ℕ d (free_blocks cs) r → Each (Spare m cs) (linked vs) → ((b : ℕ) → occ b (linked vs) ≡ occ b (new_blocks d (free_blocks cs) r))
+    → Stored (block_at (run vs (state_of m cs)).0) (suc v.0) v.1 → Counted (block_at (run vs (state_of m cs)).0) (run vs (state_of m cs)).1 (λ b. one v.1.0 b + h b)
+    → (q : State) → q ≡ run vs (state_of m cs) → Edited d r m cs q.0 q.1
+edited_by m cs d r h old v vs e free once st ct q eq =
+    let z : State = run vs (state_of m cs) in
+    let u : model.Tree = changed_on ℕ d (free_blocks cs) r in
+    let cu : Counted (block_at z.0) z.1 (λ b. one u.1.0 b + h b) = subst (λ (v : model.Tree). Counted (block_at z.0) z.1 (λ b. one v.1.0 b + h b)) e ct in
+    subst (λ (z : State). Edited d r m cs z.0 z.1) (sym eq) (record {
+      os = ops m.width vs;
+      trace = run_replay vs (state_of m cs);
+      free = ops_free m cs m.width vs free;
+      once = λ b. ap (occ b) (ops_targets m.width vs) ∙ once b;
+      stored = subst (model.Stored (current_at z.0)) e (to_model z.0 v st);
+      counted = λ h' c. recount (λ b. one u.1.0 b + h b) (λ b. one u.1.0 b + h' b) (λ b. omega (arith, c.eqn b, old.eqn b)) cu;
+      sized = (run_same vs (state_of m cs)).counts;
+    })
 
 -- Someone holds the tree r at this root, and others hold h; the grant gs has the lowest free blocks.
 pub record Rooted (m : Meaning) (cs gs : List ℕ) (root : Root) (s : ℕ) (r : model.Tree) (h : ℕ → ℕ) : Type 0 where
@@ -156,22 +175,6 @@ module _ (m : Meaning) (cs gs : List ℕ) (root : Root) (s : ℕ) (r : model.Tre
     unfolding changed_on
     new_is = root_numbers (λ i. get_or (free_blocks cs) i 0) gs s a r p.lowest
 
-    -- moves that leave a tree v, which is the new one
-    edited_by : (v : model.Tree) (vs : List Move) → v ≡ u → Each (Spare m cs) (linked vs) → ((b : ℕ) → occ b (linked vs) ≡ occ b (new_blocks (puts s a) (free_blocks cs) r))
-        → Stored (block_at (run vs q₀).0) (suc v.0) v.1 → Counted (block_at (run vs q₀).0) (run vs q₀).1 (λ b. one v.1.0 b + h b) → (q : State) → q ≡ run vs q₀ → Edited (puts s a) r m cs q.0 q.1
-    edited_by v vs e free once st ct q eq =
-        let z : State = run vs q₀ in
-        let cu : Counted (block_at z.0) z.1 (λ b. one u.1.0 b + h b) = subst (λ (v : model.Tree). Counted (block_at z.0) z.1 (λ b. one v.1.0 b + h b)) e ct in
-        subst (λ (z : State). Edited (puts s a) r m cs z.0 z.1) (sym eq) (record {
-          os = ops m.width vs;
-          trace = run_replay vs q₀;
-          free = ops_free m cs m.width vs free;
-          once = λ b. ap (occ b) (ops_targets m.width vs) ∙ once b;
-          stored = subst (model.Stored (current_at z.0)) e (to_model z.0 v st);
-          counted = λ h' c. recount (λ b. one u.1.0 b + h b) (λ b. one u.1.0 b + h' b) (λ b. omega (arith, c.eqn b, p.counted.eqn b)) cu;
-          sized = (run_same vs q₀).counts;
-        })
-
     module _ (q : State) (made : Block) (M : Made m cs q.0 q.1 gs s a (suc l) es made) where
       len : length made.entries ≡ length us
       len = ap (λ (x : Block). length x.entries) M.is ∙ map_len us
@@ -216,7 +219,7 @@ module _ (m : Meaning) (cs gs : List ℕ) (root : Root) (s : ℕ) (r : model.Tre
             let q₁ : State = run ms q₀ in
             let st : Every (Stored (block_at q₁.0) (suc l)) (o ∷ []) = subst (Every (Stored (block_at q₁.0) (suc l))) one_is S.stored in
             let ct : Counted (block_at q₁.0) q₁.1 (λ b. occ b (kids (suc l) (o ∷ [])) + h b) = subst (λ (z : List (ℕ × Tree ℕ ℕ l)). Counted (block_at q₁.0) q₁.1 (λ b. occ b (kids (suc l) z) + h b)) one_is S.counted in
-            edited_by (l, o.1) ms u_one (moves_each gs (Spare m cs) s a (suc l) es (λ j lt. spare j (omega arith)))
+            edited_by m cs (puts s a) r h p.counted (l, o.1) ms u_one (moves_each gs (Spare m cs) s a (suc l) es (λ j lt. spare j (omega arith)))
             (λ c. root_one (λ i. get_or (free_blocks cs) i 0) gs s a r p.lowest c (omega (arith, len)))
             st.0 (recount (λ b. occ b (kids (suc l) (o ∷ [])) + h b) (λ b. one o.1.0 b + h b) (λ b. omega arith) ct) q M.state
 
@@ -261,7 +264,7 @@ module _ (m : Meaning) (cs gs : List ℕ) (root : Root) (s : ℕ) (r : model.Tre
             let q₂ : State = step (linking x (node_of (suc l) us)) q₁ in
             let end : run (ms ++ top) q₀ ≡ q₂ = run_append ms top q₀ in
             let to : q' ≡ q₂ = e' ∙ ap (λ (n : Block). step (linking x n) q) M.is ∙ ap (step (linking x (node_of (suc l) us))) M.state in
-            edited_by (suc l, (x, us)) (ms ++ top) u_more
+            edited_by m cs (puts s a) r h p.counted (suc l, (x, us)) (ms ++ top) u_more
             (each_linked gs (Spare m cs) ms top (moves_each gs (Spare m cs) s a (suc l) es (λ j lt. spare j (omega arith))) (subst (Spare m cs) (sym x-is) (spare (2 * suc l) (omega arith)), tt))
             (λ c. ap (occ c) (linked_append ms top ∙ ap (λ (y : ℕ). linked ms ++ y ∷ []) x-is) ∙ root_more (λ i. get_or (free_blocks cs) i 0) gs s a r p.lowest c (omega (arith, len)))
             (subst (λ (y : State). Stored (block_at y.0) (suc (suc l)) (x, us)) (sym end) (link_stored q₁ x (suc l) us h still_free wx ox ly S.stored S.counted))

@@ -46,7 +46,7 @@ pub record Made (m : Meaning) (cs : List ℕ) (m' : Meaning) (cs' gs : List ℕ)
   pub state : (m', cs') ≡ run (moves gs s a l es) (m, cs)
   pub laid : Laid m.width (moves gs s a l es)
 
--- the places j and j + 1 of the grant are two free blocks on the device
+-- the places j and j + 1 of the grant are two free blocks on the device, which has few
 pub record Open (m : Meaning) (cs gs : List ℕ) (j : ℕ) : Type 0 where
   pub left_on : slice_index gs j < blocks_of m
   pub left_in : slice_index gs j < length cs
@@ -55,3 +55,4 @@ pub record Open (m : Meaning) (cs gs : List ℕ) (j : ℕ) : Type 0 where
   pub right_in : slice_index gs (j + 1) < length cs
   pub right_free : slice_index cs (slice_index gs (j + 1)) ≡ 0
   pub apart : slice_index gs j ≢ slice_index gs (j + 1)
+  pub few : length cs ≤ 4096

@@ -50,7 +50,6 @@ fn link_kids<D: Device>(
     made: &Page,
     speed: u32,
 ) -> Kids
-    requires few { length store.old.1 ≤ 4096 }
     requires places { Open store.old.0 store.old.1 grant.old 0 }
     requires two { 2 ≤ length grant.old }
     requires left { 2 ≤ store.old.0.left }

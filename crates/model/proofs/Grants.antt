@@ -13,12 +13,12 @@ use Rattle.tree.proofs.Laid.{same_rule}
 use Rattle.model.specs.declared.refusal.Refusal.{Refusal}
 use Rattle.model.specs.declared.refusal.Refusal.TheVariants.{Number, Speed, Angle, Absent, Short, Worn}
 use Rattle.model.specs.Plain.{place, has, first, early}
-use Rattle.table.specs.Rows.{off_angle}
+use Rattle.table.specs.Rows.{off_angle, angle_of, payload_of}
 use Rattle.model.specs.Plain.{Ask.create, Ask.put, Ask.remove}
-use Rattle.model.specs.TreeBlocks.{Tree, bare_tree, raw, angle, rows_of, Change, Change.begin, Change.puts, Change.takes, changed_on, top_level, tree_at, Each, Fit, Good, elem}
+use Rattle.model.specs.TreeBlocks.{Tree, bare_tree, rows_of, Change, Change.begin, Change.puts, Change.takes, changed_on, top_level, tree_at, Each, Fit, Good, elem}
 use Rattle.model.specs.Model.{Model, Shapes, unused, used, free, height, holds, needs, late, refusal, tree_of, new_tree}
 use Rattle.model.specs.World.{Tables, trees, model_of, shape, sizes, slot_in}
-use Rattle.model.proofs.TreeLaws.{Allowed, needed, grow_rows, grow_fit, begin_fit, angle_raw, raw_range}
+use Rattle.model.proofs.TreeLaws.{Allowed, needed, grow_rows, grow_fit, begin_fit, angle_payload, payload_range}
 use Rattle.model.proofs.Frames.{Goods, good_at, OnPlace, trees_place, tree_at?}
 use Rattle.model.proofs.Places.{form_of?, forms_place}
 
@@ -49,20 +49,23 @@ sizes_parts n w h =
     let b = and_parts (leb 32 w) (leb w 40) p.1 in
     (leb-true 16 n a.0, leb-true n 4096 a.1, leb-true 32 w b.0, leb-true w 40 b.1)
 
+-- a sound tree is at most five blocks high
+pub good_low : (n : ℕ) (c : ℕ → Content) (r : Root) → Good n c r → r.0 ≤ 5
+unfolding tree_at
+good_low n c r g = low r.0 (five_high ℕ ℕ (tree_at c r).0 (tree_at c r).1 ((same_rule ℕ ℕ (tree_at c r).0 (tree_at c r).1).1 g.fit.laid))
+  where
+    low : (h : ℕ) → top_level h ≤ 4 → h ≤ 5
+    low zero q = omega arith
+    low (suc l) q = omega arith
+
 -- a sound root fits in a slot
 good_rooted : (n : ℕ) (c : ℕ → Content) (r : Root) → Good n c r → rooted n (Some r) ≡ true
 unfolding tree_at
 good_rooted n c r g =
     let f = g.fit in
-    let low : top_level r.0 ≤ 4 = five_high ℕ ℕ (tree_at c r).0 (tree_at c r).1 ((same_rule ℕ ℕ (tree_at c r).0 (tree_at c r).1).1 f.laid) in
-    let h5 : r.0 ≤ 5 = height_low r.0 low in
     and_from (leb 1 r.0 && leb r.0 5) (leb 2 r.1 && ltb r.1 n)
-    (and_from (leb 1 r.0) (leb r.0 5) (le-leb 1 r.0 g.height) (le-leb r.0 5 h5))
+    (and_from (leb 1 r.0) (leb r.0 5) (le-leb 1 r.0 g.height) (le-leb r.0 5 (good_low n c r g)))
     (and_from (leb 2 r.1) (ltb r.1 n) (le-leb 2 r.1 f.inside.0.0) (lt-ltb r.1 n f.inside.0.1))
-  where
-    height_low : (h : ℕ) → top_level h ≤ 4 → h ≤ 5
-    height_low zero q = omega arith
-    height_low (suc l) q = omega arith
 
 goods_rooted : (n : ℕ) (c : ℕ → Content) (t : Table) → Goods n c t → every (rooted n) t ≡ true
 goods_rooted n c [] g = refl
@@ -147,7 +150,7 @@ module _ (t : Tables) (m : Meaning) (z : sizes (blocks_of m) m.width ≡ true) (
     pub allowed : Allowed d
     pub room : needed d (tree_of M n) ≤ length (free S)
 
-  pub put_start : (n s : ℕ) (a : ℤ) → refusal S (put n s a) ≡ None → Start n (puts s (raw a)) × (off_angle a ≡ false)
+  pub put_start : (n s : ℕ) (a : ℤ) → refusal S (put n s a) ≡ None → Start n (puts s (payload_of a)) × (off_angle a ≡ false)
   put_start n s a e =
       let p = either_none (early (has S.working) (put n s a)) (late S (put n s a)) e in
       let p1 = first_none (ltb 23 n) Number ((ltb 9999 s, Speed) ∷ (off_angle a, Angle) ∷ (not (has S.working n), Absent) ∷ []) p.0 in
@@ -160,7 +163,7 @@ module _ (t : Tables) (m : Meaning) (z : sizes (blocks_of m) m.width ≡ true) (
       let lv = level_at R.root R.good in
       let hi = R.high in
       let tr : (tree_of M n).0 ≡ (tree_at (current_at m) R.root).0 = ap (λ (x : Tree). x.0) R.tree in
-      (record { rooted = R; sound = subst (Fit (blocks_of m)) (sym R.tree) R.good.fit; allowed = (omega arith, raw_range a p3.0); room = omega arith }, p3.0)
+      (record { rooted = R; sound = subst (Fit (blocks_of m)) (sym R.tree) R.good.fit; allowed = (omega arith, payload_range a p3.0); room = omega arith }, p3.0)
 
   pub remove_start : (n s : ℕ) → refusal S (remove n s) ≡ None → holds S n s ≡ true → Start n (takes s)
   remove_start n s e h =
@@ -180,8 +183,8 @@ module _ (t : Tables) (m : Meaning) (z : sizes (blocks_of m) m.width ≡ true) (
   pub create_fit : (n : ℕ) → refusal S (create n) ≡ None → Fit (blocks_of m) (new_tree M n begin)
   create_fit n e = begin_fit (blocks_of m) (free S) bare_tree blocks_free (enough n 1 (either_none (early (has S.working) (create n)) (late S (create n)) e).1)
 
-  pub put_fit : (n s : ℕ) (a : ℤ) → refusal S (put n s a) ≡ None → Fit (blocks_of m) (new_tree M n (puts s (raw a)))
-  put_fit n s a e = let B = (put_start n s a e).0 in grow_fit (blocks_of m) (puts s (raw a)) (free S) (tree_of M n) B.allowed blocks_free B.room B.sound
+  pub put_fit : (n s : ℕ) (a : ℤ) → refusal S (put n s a) ≡ None → Fit (blocks_of m) (new_tree M n (puts s (payload_of a)))
+  put_fit n s a e = let B = (put_start n s a e).0 in grow_fit (blocks_of m) (puts s (payload_of a)) (free S) (tree_of M n) B.allowed blocks_free B.room B.sound
 
   pub remove_fit : (n s : ℕ) → refusal S (remove n s) ≡ None → holds S n s ≡ true → Fit (blocks_of m) (new_tree M n (takes s))
   remove_fit n s e h = let B = remove_start n s e h in grow_fit (blocks_of m) (takes s) (free S) (tree_of M n) B.allowed blocks_free B.room B.sound
@@ -189,18 +192,18 @@ module _ (t : Tables) (m : Meaning) (z : sizes (blocks_of m) m.width ≡ true) (
   wf : (t : Tree) → Fit (blocks_of m) t → Wf ℕ ℕ t.0 t.1
   wf t F = (same_rule ℕ ℕ t.0 t.1).1 F.laid
 
-  pub put_rows : (n s : ℕ) (a : ℤ) → refusal S (put n s a) ≡ None → rows_of (new_tree M n (puts s (raw a))) ≡ ins s a (rows_of (tree_of M n))
+  pub put_rows : (n s : ℕ) (a : ℤ) → refusal S (put n s a) ≡ None → rows_of (new_tree M n (puts s (payload_of a))) ≡ ins s a (rows_of (tree_of M n))
   put_rows n s a e =
       let B = put_start n s a e in
       let rs : List (ℕ × ℕ) = rows ℕ ℕ (tree_of M n).0 (tree_of M n).1 in
-      ap (map_e angle) (grow_rows (puts s (raw a)) (free S) (tree_of M n) B.0.allowed (wf (tree_of M n) B.0.sound))
-      ∙ map_ins angle s (raw a) rs ∙ ap (λ x. ins s x (map_e angle rs)) (angle_raw a B.1)
+      ap (map_e angle_of) (grow_rows (puts s (payload_of a)) (free S) (tree_of M n) B.0.allowed (wf (tree_of M n) B.0.sound))
+      ∙ map_ins angle_of s (payload_of a) rs ∙ ap (λ x. ins s x (map_e angle_of rs)) (angle_payload a B.1)
 
   pub remove_rows : (n s : ℕ) → refusal S (remove n s) ≡ None → holds S n s ≡ true → rows_of (new_tree M n (takes s)) ≡ del s (rows_of (tree_of M n))
   remove_rows n s e h =
       let B = remove_start n s e h in
-      ap (map_e angle) (grow_rows (takes s) (free S) (tree_of M n) B.allowed (wf (tree_of M n) B.sound))
-      ∙ map_del angle s (rows ℕ ℕ (tree_of M n).0 (tree_of M n).1)
+      ap (map_e angle_of) (grow_rows (takes s) (free S) (tree_of M n) B.allowed (wf (tree_of M n) B.sound))
+      ∙ map_del angle_of s (rows ℕ ℕ (tree_of M n).0 (tree_of M n).1)
 
 pub create_rows : (M : Model) (n : ℕ) → rows_of (new_tree M n begin) ≡ []
 unfolding changed_on

@@ -10,7 +10,8 @@ use Rattle.model.specs.declared.refusal.Refusal.{Refusal}
 use Rattle.model.specs.declared.refusal.Refusal.TheVariants.{Worn, Last, Shape}
 use Rattle.model.specs.Plain.{Map, place, Ask, Call, Answer, answer, first, blank}
 use Rattle.model.specs.Plain.{Ask.create, Ask.clone, Ask.delete, Ask.put, Ask.remove, Ask.get, Ask.at, Ask.rows, Ask.summary, Ask.seal, Call.ask, Call.finish, Call.reopen, Call.mount, Answer.done, Answer.refused}
-use Rattle.model.specs.TreeBlocks.{Tree, Change, Change.begin, Change.puts, Change.takes, elem, raw, root_of, tree_at, Stored, Fit, Good, Each, new_blocks, changed}
+use Rattle.table.specs.Rows.{payload_of}
+use Rattle.model.specs.TreeBlocks.{Tree, Change, Change.begin, Change.puts, Change.takes, elem, root_of, tree_at, Stored, Fit, Good, Each, new_blocks, changed}
 use Rattle.model.specs.Walk.{walk}
 use Rattle.model.proofs.TreeLaws.{elem_left, elem_right, elem_cases, tree_stored, writes_form}
 use Rattle.model.proofs.Walks.{walk_none}
@@ -20,7 +21,7 @@ use Rattle.tree.specs.Apart.{places}
 use Rattle.model.proofs.Grants.{slot_law, sizes_parts, create_fit, put_fit, remove_fit}
 use Rattle.std.proofs.lemmas.Bool.{cases_eq}
 use Rattle.model.specs.Model.{Trees, Model, maps_of, refusal, late, free, used, holds, source, new_tree, writes_for, standing, forms, reaches, left_after, next, reply, after, with_change, broken, landed, finished, cut_model, working≔}
-use Rattle.model.specs.World.{Tables, Mode, Mode.mounted, Mode.sealed, Mode.down, placed, finished_tables, Event, Event.did, Event.broke, Event.lost, trees, model_of, shape, latest, walked, faulty, found, sizes, slot_in, fresh, Formatted, FreeWrite, Changed, targets, Effect, Quiet, Mounts, Does, Step, Run, Traced, bare, Refines}
+use Rattle.model.specs.World.{Tables, Mode, Mode.mounted, Mode.sealed, Mode.down, placed, finished_tables, trees, model_of, shape, latest, walked, faulty, found, sizes, slot_in, fresh, Formatted, FreeWrite, Changed, targets, Effect, Quiet, Mounts, Does, Step, bare}
 use Rattle.model.proofs.Frames.{Calm, calm_cut, Still, Keeps, Off, IsWrite, left_replay, layer_replay, calm_apply, calm_replay, keeps_writes, cut_calm, keeps_cut, keeps_flush, still_keeps, Same, each_take, each_map, OnPlace, good_at, good_set, Goods, Reaches, trees_same, good_same, good_inside, trees_place, trees_put}
 
 -- 0 and 1, and no more, stand below 2
@@ -72,9 +73,6 @@ pub record Base (t : Tables) (m : Meaning) : Type 0 where
   pub kept : Kept m t.generation t.committed
   pub len : length t.working ≡ 24
   pub goods : Goods (blocks_of m) (current_at m) t.working
-
-current_at_keeps : (R : List ℕ) (m m' : Meaning) → Keeps R m m' → Same R (current_at m) (current_at m')
-current_at_keeps R m m' k b h = ap (λ c. c.current) (k b h)
 
 keeps_in : (m m' : Meaning) (t : Table) → Keeps (0 ∷ 1 ∷ Reaches (current_at m) t) m m' → Same (Reaches (current_at m) t) (current_at m) (current_at m')
 keeps_in m m' t k b h = ap (λ c. c.current) (k b (elem_right b (0 ∷ 1 ∷ []) (Reaches (current_at m) t) h))
@@ -293,7 +291,7 @@ effect_fine (clone f n) t m os w' m' B em no' E =
     quiet_fine _ (mounted (placed t (set t.working n o))) w' m m' os em E (placed_base t m n o B (good_at _ t.working f B.goods), ap (working≔ (model_of t m)) e)
 effect_fine (delete n) t m os w' m' B em no' E =
     quiet_fine _ (mounted (placed t (set t.working n None))) w' m m' os em E (placed_base t m n None B tt, ap (working≔ (model_of t m)) (trees_put (current_at m) t.working n None))
-effect_fine (put n s a) t m os w' m' B em no' E = grown_fine t m n (puts s (raw a)) os w' m' B em (put_fit t m B.kept.sized B.goods n s a no') E
+effect_fine (put n s a) t m os w' m' B em no' E = grown_fine t m n (puts s (payload_of a)) os w' m' B em (put_fit t m B.kept.sized B.goods n s a no') E
 effect_fine (remove n s) t m os w' m' B em no' E = go (holds (shape t m) n s) refl E
   where
     go : (k : Bool) → holds (shape t m) n s ≡ k → cond k (Changed t m n (takes s) os w' m') (Quiet (mounted t) os w') → Fine (cond k (with_change (model_of t m) n (takes s)) (model_of t m)) w' m'
@@ -554,15 +552,6 @@ module _ (V : Type 0) (join : ℕ → Map → V) where
   broke_fine down reopen M m a os w' m' k κ f S = absurd S.1
   broke_fine down mount M m a os w' m' k κ f S = quiet_cut M κ down m os k S.1.0 f
 
-  traced : (es : List (Event V)) (M : Model) (w : Mode) (m : Meaning) → Fine M w m → Run V join w m es → Traced V join M es
-  traced [] M w m f R = tt
-  traced (did c a os w' m' ∷ es) M w m f R =
-      let s = step_fine w c M m a os w' m' f R.0 in
-      (s.0, traced es (next M c) w' m' s.1 R.1)
-  traced (broke c os k κ ∷ es) M w m f R =
-      traced es (cut_model κ (broken M c k κ)) down (cut κ (replay (take k os) m)) (broke_fine w c M m R.0.0 os R.0.1 R.0.2 k κ f R.0.3) R.1
-  traced (lost κ ∷ es) M w m f R = traced es (cut_model κ M) down (cut κ m) (idle_cut M κ w m f) R
-
   pub formatted_fine : (m : Meaning) → Formatted m → Fine (model_of bare m) (mounted bare) m
   unfolding Fine
   formatted_fine m f =
@@ -579,6 +568,3 @@ module _ (V : Type 0) (join : ℕ → Map → V) where
         other_slot = ap (λ c. slot_in (blocks_of m) 0 c) f.3 ∙ slot_law (blocks_of m) m.width 0 (current_at m) blank f.0 refl tt (lit≤ tt);
       } in
       (record { calm = f.2; kept = kept; len = refl; goods = tt }, refl)
-
-pub refines : (V : Type 0) → Refines V
-refines V join m es f R = traced V join es (model_of bare m) (mounted bare) m (formatted_fine V join m f) R

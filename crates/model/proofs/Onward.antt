@@ -7,7 +7,8 @@ use Rattle.page.specs.Slot.{Root, Table, slot_words}
 use Rattle.model.specs.declared.refusal.Refusal.{Refusal}
 use Rattle.model.specs.Plain.{Map, place, Ask, Call, Answer, answer, blank, early, has}
 use Rattle.model.specs.Plain.{Ask.create, Ask.clone, Ask.delete, Ask.put, Ask.remove, Ask.get, Ask.at, Ask.rows, Ask.summary, Ask.seal, Call.ask, Call.finish, Call.reopen, Call.mount, Answer.done, Answer.refused}
-use Rattle.model.specs.TreeBlocks.{form, elem, Change, Change.begin, Change.puts, Change.takes, raw, root_of, tree_at, reach, Stored}
+use Rattle.table.specs.Rows.{payload_of}
+use Rattle.model.specs.TreeBlocks.{form, elem, Change, Change.begin, Change.puts, Change.takes, root_of, tree_at, reach, Stored}
 use Rattle.model.specs.Model.{Model, maps_of, refusal, late, used, holds, tree_of, new_tree, next, broken, cut_model}
 use Rattle.model.specs.World.{Tables, Mode, Mode.mounted, Mode.sealed, Mode.down, placed, finished_tables, Event, Event.did, Event.broke, Event.lost, model_of, shape, found, fresh, sizes, Changed, Effect, Quiet, Mounts, Step, Run, bare}
 use Rattle.model.specs.Right.{Ends}
@@ -61,9 +62,9 @@ module _ (t : Tables) (m : Meaning) (B : Base t m) where
   can (delete n) e = ([], mounted (placed t (set t.working n None)), (refl, refl))
   can (put n s a) e =
       let S = (put_start t m B.kept.sized B.goods n s a e).0 in (
-        script t m B n (puts s (raw a)),
-        mounted (placed t (set t.working n (Some (root_of (new_tree (model_of t m) n (puts s (raw a))))))),
-        met t m B n (puts s (raw a)) S.room (put_fit t m B.kept.sized B.goods n s a e) (still_stored n (puts s (raw a)) S),
+        script t m B n (puts s (payload_of a)),
+        mounted (placed t (set t.working n (Some (root_of (new_tree (model_of t m) n (puts s (payload_of a))))))),
+        met t m B n (puts s (payload_of a)) S.room (put_fit t m B.kept.sized B.goods n s a e) (still_stored n (puts s (payload_of a)) S),
       )
   can (remove n s) e = can_remove n s e (holds (shape t m) n s) refl
   can (get n s) e = ([], mounted t, (refl, refl))

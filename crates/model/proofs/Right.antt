@@ -9,7 +9,8 @@ use Rattle.model.specs.declared.refusal.Refusal.{Refusal}
 use Rattle.model.specs.Plain as plain
 use Rattle.model.specs.Plain.{Map, Maps, Plain, place, has, map_at, early, answer, Ask, Call, Answer}
 use Rattle.model.specs.Plain.{Ask.create, Ask.clone, Ask.delete, Ask.put, Ask.remove, Ask.get, Ask.at, Ask.rows, Ask.summary, Ask.seal, Call.ask, Call.finish, Call.reopen, Call.mount, Answer.refused}
-use Rattle.model.specs.TreeBlocks.{Tree, Change, Change.begin, Change.puts, Change.takes, bare_tree, elem, keys, keys_of, rows_of, raw, Each}
+use Rattle.table.specs.Rows.{payload_of}
+use Rattle.model.specs.TreeBlocks.{Tree, Change, Change.begin, Change.puts, Change.takes, bare_tree, elem, keys, keys_of, rows_of, Each}
 use Rattle.tree.specs.Node.{ins, del}
 use Rattle.tree.specs.Reads.{look}
 use Rattle.model.proofs.TreeLaws.{keys_form}
@@ -55,7 +56,8 @@ find_elem s (r ∷ rs) = go (eqb s r.0) (find_elem s rs)
     go true e = refl
     go false e = e
 
-holds_find : (M : Model) (n s : ℕ) → holds (shape_of M) n s ≡ is_some (look s (map_at (maps_of M.working) n))
+-- whether a clone has a row
+pub holds_find : (M : Model) (n s : ℕ) → holds (shape_of M) n s ≡ is_some (look s (map_at (maps_of M.working) n))
 holds_find M n s =
     ap (λ f. elem s (keys_of f)) (sym (form_at_lem M n)) ∙ ap (elem s) (keys_form (tree_of M n)) ∙ find_elem s (rows_of (tree_of M n)) ∙ ap (λ rs. is_some (look s rs)) (sym (map_at_lem M n))
 
@@ -87,7 +89,7 @@ plain_after (clone f n) t m B no' = let M : Model = model_of t m in ap (working_
 plain_after (delete n) t m B no' = let M : Model = model_of t m in ap (working_p (plain_m M)) (maps_set M.working n None)
 plain_after (put n s a) t m B no' =
     let M : Model = model_of t m in
-    plain_grown M n (puts s (raw a)) (ins s a (map_at (maps_of M.working) n)) (put_rows t m B.kept.sized B.goods n s a no' ∙ ap (ins s a) (sym (map_at_lem M n)))
+    plain_grown M n (puts s (payload_of a)) (ins s a (map_at (maps_of M.working) n)) (put_rows t m B.kept.sized B.goods n s a no' ∙ ap (ins s a) (sym (map_at_lem M n)))
 plain_after (remove n s) t m B no' =
     let M : Model = model_of t m in
     plain_removed M n s (holds (shape_of M) n s) (look s (map_at (maps_of M.working) n)) (holds_find M n s)

@@ -16,9 +16,9 @@ use Rattle.tree.proofs.Laid.{same_rule}
 use Rattle.tree.proofs.Puts.{put_sound}
 use Rattle.tree.proofs.Removes.{remove_sound}
 use Rattle.tree.proofs.Numbering.{shape_kept, numbers_natural, numbers_from, over_root_twice}
-use Rattle.table.specs.Rows.{off_angle}
+use Rattle.table.specs.Rows.{off_angle, angle_of, payload_of}
 use Rattle.page.specs.Block.{block_in}
-use Rattle.model.specs.TreeBlocks.{Tree, form, raw, angle, rows_of, keys, keys_of, reach, elem, root_of, Change, Change.begin, Change.puts, Change.takes, without_angle, changed, changed_on, writes, entries_in, pay_at, top_level, tree_at, payload, block_of, Stored, Each, Fit, Good}
+use Rattle.model.specs.TreeBlocks.{Tree, form, rows_of, keys, keys_of, reach, elem, root_of, Change, Change.begin, Change.puts, Change.takes, without_angle, changed, changed_on, writes, entries_in, pay_at, top_level, tree_at, payload, block_of, Stored, Each, Fit, Good}
 
 -- membership
 pub elem_left : (b : ℕ) (xs ys : List ℕ) → T (elem b xs) → T (elem b (xs ++ ys))
@@ -286,15 +286,16 @@ begin_fit n f t e k = record {
 }
 
 -- rows with their angles
-pub angle_raw : (a : ℤ) → off_angle a ≡ false → angle (raw a) ≡ a
-angle_raw (pos n) h = ap (λ k. cond k (negsuc (8999 - (n + 9000))) (pos (n + 9000 - 9000))) (le-ltb (n + 9000) 9000 (omega arith)) ∙ ap pos (omega arith)
-angle_raw (negsuc n) h =
+pub angle_payload : (a : ℤ) → off_angle a ≡ false → angle_of (payload_of a) ≡ a
+angle_payload (pos n) h = ap (λ k. cond k (negsuc (8999 - (n + 9000))) (pos (n + 9000 - 9000))) (le-ltb (n + 9000) 9000 (omega arith)) ∙ ap pos (omega arith)
+angle_payload (negsuc n) h =
     let q : n ≤ 8999 = ltb-false 8999 n h in
-    ap (λ k. cond k (negsuc (8999 - (8999 - n))) (pos (8999 - n - 9000))) (lt-ltb (8999 - n) 9000 (omega arith)) ∙ ap negsuc (omega arith)
+    let p = 9000 - (n + 1) in
+    ap (λ k. cond k (negsuc (8999 - p)) (pos (p - 9000))) (lt-ltb p 9000 (omega arith)) ∙ ap negsuc (omega arith)
 
-pub raw_range : (a : ℤ) → off_angle a ≡ false → raw a ≤ 18000
-raw_range (pos n) h = let q : n ≤ 9000 = ltb-false 9000 n h in omega arith
-raw_range (negsuc n) h = omega arith
+pub payload_range : (a : ℤ) → off_angle a ≡ false → payload_of a ≤ 18000
+payload_range (pos n) h = let q : n ≤ 9000 = ltb-false 9000 n h in omega arith
+payload_range (negsuc n) h = omega arith
 
 -- keys
 pub keys_map : {X Y : Type 0} (f : X → Y) (rs : List (ℕ × X)) → keys (map_e f rs) ≡ keys rs
@@ -303,7 +304,7 @@ keys_map f (e ∷ r) = ap (λ (z : List ℕ). e.0 ∷ z) (keys_map f r)
 
 pub keys_form : (t : Tree) → keys_of (form t) ≡ keys (rows_of t)
 keys_form t =
-    ap keys (over_rows ℕ ℕ ℕ (Unit {0}) same bare t).0 ∙ keys_map bare (rows ℕ ℕ t.0 t.1) ∙ sym (keys_map angle (rows ℕ ℕ t.0 t.1))
+    ap keys (over_rows ℕ ℕ ℕ (Unit {0}) same bare t).0 ∙ keys_map bare (rows ℕ ℕ t.0 t.1) ∙ sym (keys_map angle_of (rows ℕ ℕ t.0 t.1))
 
 -- blocks
 module _ {P P' : Type 0} (f : P → P') where

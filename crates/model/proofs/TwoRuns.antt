@@ -4,13 +4,13 @@ use Rattle.std.specs.Option.{option_or}
 use Rattle.device.specs.Meaning.{Meaning, spent}
 use Rattle.device.specs.Cuts.{Choice, Choice.old, Choice.new, Choice.other, Cutting, replay, cut}
 use Rattle.page.specs.Slot.{Root}
-use Rattle.table.specs.Rows.{off_angle}
+use Rattle.table.specs.Rows.{off_angle, payload_of}
 use Rattle.table.specs.Angles.{angle_at}
 use Rattle.model.specs.declared.refusal.Refusal.{Refusal}
 use Rattle.model.specs.declared.refusal.Refusal.TheVariants.{Number, Speed, Angle, Absent}
 use Rattle.model.specs.Plain.{Map, Maps, place, has, first, early, map_at, answer, Ask, Call, Answer}
 use Rattle.model.specs.Plain.{Ask.create, Ask.clone, Ask.delete, Ask.put, Ask.remove, Ask.get, Ask.at, Ask.rows, Ask.summary, Ask.seal, Call.ask, Call.finish, Call.reopen, Call.mount, Answer.done, Answer.refused}
-use Rattle.model.specs.TreeBlocks.{Tree, Form, Change, Change.begin, Change.puts, Change.takes, without_angle, form, bare_tree, raw, root_of, changed_on, writes}
+use Rattle.model.specs.TreeBlocks.{Tree, Form, Change, Change.begin, Change.puts, Change.takes, without_angle, form, bare_tree, root_of, changed_on, writes}
 use Rattle.model.proofs.Places.{form_of?, rows_of?, forms_place, maps_place, forms_set, form_at_lem}
 use Rattle.model.proofs.TreeLaws.{grow_form}
 use Rattle.tree.specs.Reads.{look}
@@ -203,7 +203,7 @@ rel_ask : (q : Ask) (μ : Marks) (M N : Model) → Rel μ M N → Rel (mark_ask 
 rel_ask (create n) μ M N R = rel_create μ M N n R
 rel_ask (clone f n) μ M N R = rel_place μ M N n (touched μ f) (place M.working f) (place N.working f) R (agreeing_at μ.working M.working N.working f R.working) (form_place_same M N f R.shapes)
 rel_ask (delete n) μ M N R = rel_place μ M N n false None None R (λ e. refl) refl
-rel_ask (put n s a) μ M N R = rel_put (puts s (raw a)) μ M N n R
+rel_ask (put n s a) μ M N R = rel_put (puts s (payload_of a)) μ M N n R
 rel_ask (remove n s) μ M N R = rel_remove (holds (shape_of M) n s) (holds (shape_of N) n s) μ M N n s (holds_same M N n s R.shapes) R
 rel_ask (get n s) μ M N R = R
 rel_ask (at n s) μ M N R = R
@@ -222,13 +222,13 @@ or_false true l e = (refl, e)
 or_false false l e = absurd (subst T e tt)
 
 -- a put of two angles
-rel_puts : (μ : Marks) (M N : Model) (n s : ℕ) (a b : ℤ) → Rel μ M N → Rel (marked μ (tw.puts n s a b)) (with_change M n (puts s (raw a))) (with_change N n (puts s (raw b)))
+rel_puts : (μ : Marks) (M N : Model) (n s : ℕ) (a b : ℤ) → Rel μ M N → Rel (marked μ (tw.puts n s a b)) (with_change M n (puts s (payload_of a))) (with_change N n (puts s (payload_of b)))
 rel_puts μ M N n s a b R = record {
-  shapes = grown_shapes M N n (puts s (raw a)) (puts s (raw b)) refl R.shapes;
+  shapes = grown_shapes M N n (puts s (payload_of a)) (puts s (payload_of b)) refl R.shapes;
   working = agreeing_set μ.working M.working N.working n (not (same_angle a b) || touched μ n) _ _ R.working
       (λ z. let h = or_false (same_angle a b) (touched μ n) z in
-      grow_same (puts s (raw a)) M N n R.shapes (tree_same M N n (agreeing_at μ.working M.working N.working n R.working h.1))
-      ∙ ap (λ x. standing (changed_on ℕ (puts s (raw x)) (free (shape_of N)) (tree_of N n))) (same_angle_lem a b h.0));
+      grow_same (puts s (payload_of a)) M N n R.shapes (tree_same M N n (agreeing_at μ.working M.working N.working n R.working h.1))
+      ∙ ap (λ x. standing (changed_on ℕ (puts s (payload_of x)) (free (shape_of N)) (tree_of N n))) (same_angle_lem a b h.0));
   committed = R.committed;
   counts = R.counts;
 }

@@ -10,7 +10,8 @@ use Rattle.model.specs.Plain.{Map, Maps, Ask, Call, Answer, place, has, first, e
 use Rattle.model.specs.Plain.{Ask.create, Ask.clone, Ask.delete, Ask.put, Ask.remove, Ask.get, Ask.at, Ask.rows, Ask.summary, Ask.seal, Call.ask, Call.finish, Call.reopen, Call.mount}
 use Rattle.model.specs.Plain.{Answer.done, Answer.refused}
 use Rattle.page.specs.Slot.{Root}
-use Rattle.model.specs.TreeBlocks.{Tree, Form, Change, Change.begin, Change.puts, Change.takes, without_angle, form, bare_tree, elem, raw, rows_of, keys_of, reach, root_of, changed_on, writes}
+use Rattle.table.specs.Rows.{payload_of}
+use Rattle.model.specs.TreeBlocks.{Tree, Form, Change, Change.begin, Change.puts, Change.takes, without_angle, form, bare_tree, elem, rows_of, keys_of, reach, root_of, changed_on, writes}
 
 abbrev pub Trees : Type 0
 Trees = List (Option (Root × Tree))
@@ -155,7 +156,7 @@ abbrev pub after : Model → Ask → Model
 after M (create n) = with_change M n begin
 after M (clone f n) = working≔ M (slice_set M.working n (place M.working f))
 after M (delete n) = working≔ M (slice_set M.working n None)
-after M (put n s a) = with_change M n (puts s (raw a))
+after M (put n s a) = with_change M n (puts s (payload_of a))
 after M (remove n s) = cond (holds (shape_of M) n s) (with_change M n (takes s)) M
 after M (get n s) = M
 after M (at n s) = M

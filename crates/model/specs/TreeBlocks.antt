@@ -1,6 +1,7 @@
 -- Trees on the blocks of a device; what a call makes of one; what a sound tree keeps.
-use Rattle.std.specs.Prelude.{◌≡◌, ℕ, zero, suc, ◌+◌, ◌-◌, ◌<◌, ◌≤◌, Bool, false, cond, ◌||◌, List, [], ◌∷◌, map, ℤ, pos, negsuc, Some, None, Option, ◌==◌, nat_lt, slice_index}
+use Rattle.std.specs.Prelude.{◌≡◌, ℕ, zero, suc, ◌<◌, ◌≤◌, Bool, false, ◌||◌, List, [], ◌∷◌, map, ℤ, Some, None, Option, ◌==◌, slice_index}
 use Rattle.device.specs.Meaning.{Content}
+use Rattle.table.specs.Rows.{angle_of}
 use Rattle.page.specs.Block.{Block, block_in}
 use Rattle.page.specs.Slot.{Root}
 use Rattle.tree.specs.Node.{map_e}
@@ -26,16 +27,9 @@ form t = over_root same bare t
 abbrev pub bare_tree : Tree
 bare_tree = (0, (0, []))
 
-abbrev pub raw : ℤ → ℕ
-raw (pos n) = n + 9000
-raw (negsuc n) = 8999 - n
-
-abbrev pub angle : ℕ → ℤ
-angle p = cond (nat_lt p 9000) (negsuc (8999 - p)) (pos (p - 9000))
-
 -- speeds and angles, ascending
 abbrev pub rows_of : Tree → List (ℕ × ℤ)
-rows_of t = map_e angle (rows ℕ ℕ t.0 t.1)
+rows_of t = map_e angle_of (rows ℕ ℕ t.0 t.1)
 
 abbrev pub keys : {X : Type 0} → List (ℕ × X) → List ℕ
 keys [] = []

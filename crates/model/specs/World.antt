@@ -9,9 +9,10 @@ use Rattle.model.specs.declared.refusal.Refusal.TheVariants.{NoVolume, Shape, Da
 use Rattle.model.specs.Plain.{Map, Ask, Call, Answer, place, answer, blank}
 use Rattle.model.specs.Plain.{Ask.create, Ask.clone, Ask.delete, Ask.put, Ask.remove, Ask.get, Ask.at, Ask.rows, Ask.summary, Ask.seal, Call.ask, Call.finish, Call.reopen, Call.mount}
 use Rattle.model.specs.Plain.{Answer.done, Answer.refused}
-use Rattle.model.specs.TreeBlocks.{Change, Change.begin, Change.puts, Change.takes, elem, raw, tree_at, Stored, root_of, Each, new_blocks}
+use Rattle.table.specs.Rows.{payload_of}
+use Rattle.model.specs.TreeBlocks.{Change, Change.begin, Change.puts, Change.takes, elem, tree_at, Stored, root_of, Each, new_blocks}
 use Rattle.model.specs.Walk.{Fault, Fault.Damage, Fault.Malform, walk}
-use Rattle.model.specs.Model.{Trees, Model, Shapes, shape_of, maps_of, refusal, free, used, holds, source, new_tree, next, reply, broken, cut_model}
+use Rattle.model.specs.Model.{Trees, Model, Shapes, shape_of, maps_of, refusal, free, used, holds, source, new_tree}
 
 pub record Tables : Type 0 where
   pub working : Table
@@ -103,7 +104,7 @@ abbrev pub Effect : Tables → Meaning → Ask → List Op → Mode → Meaning 
 Effect t m (create n) os w' m' = Changed t m n begin os w' m'
 Effect t m (clone f n) os w' m' = Quiet (mounted (placed t (slice_set t.working n (place t.working f)))) os w'
 Effect t m (delete n) os w' m' = Quiet (mounted (placed t (slice_set t.working n None))) os w'
-Effect t m (put n s a) os w' m' = Changed t m n (puts s (raw a)) os w' m'
+Effect t m (put n s a) os w' m' = Changed t m n (puts s (payload_of a)) os w' m'
 Effect t m (remove n s) os w' m' = cond (holds (shape t m) n s) (Changed t m n (takes s) os w' m') (Quiet (mounted t) os w')
 Effect t m (get n s) os w' m' = Quiet (mounted t) os w'
 Effect t m (at n s) os w' m' = Quiet (mounted t) os w'
@@ -175,15 +176,3 @@ module _ (V : Type 0) (join : ℕ → Map → V) where
   Run w m (broke c os k κ ∷ es) =
       ((a : Answer V) × (w' : Mode) × (m' : Meaning) × Step w m c a os w' m') × Run down (cut κ (replay (take k os) m)) es
   Run w m (lost κ ∷ es) = Run down (cut κ m) es
-
-  -- every answer of the history is that of the trees, which follow from the calls and the cuts alone
-  abbrev pub Traced : Model → List (Event V) → Type 0
-  Traced M [] = Unit
-  Traced M (did c a os w' m' ∷ es) = (a ≡ reply V join M c) × Traced (next M c) es
-  Traced M (broke c os k κ ∷ es) = Traced (cut_model κ (broken M c k κ)) es
-  Traced M (lost κ ∷ es) = Traced (cut_model κ M) es
-
-abbrev pub Refines : (V : Type 0) → Type 0
-Refines V =
-    (join : ℕ → Map → V) (m : Meaning) (es : List (Event V))
-    → Formatted m → Run V join (mounted bare) m es → Traced V join (model_of bare m) es

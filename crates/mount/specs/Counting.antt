@@ -35,9 +35,10 @@ abbrev pub count_at : Meaning → Option Root → List ℕ → List ℕ
 count_at m None cs = cs
 count_at m (Some r) cs = retained r.1 (tallied m (top_level r.0) r.1 cs)
 
--- the counts are right for these roots, each twice
+-- the counts of few blocks are right for these roots, each twice
 pub record Counting (m : Meaning) (cs roots : List ℕ) : Type 0 where
   pub long : length cs ≡ blocks_of m
+  pub few : length cs ≤ 4096
   pub owing : Owing (block_at m) cs (λ b. occ b roots + occ b roots) (λ b. 0)
   pub fine : (x : ℕ) → 0 < slice_index cs x → Fine (block_at m) x
 

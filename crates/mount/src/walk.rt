@@ -2,10 +2,9 @@
 ghost use Rattle.std.specs.Prelude.{◌≡◌, ℕ, ◌+◌, ◌-◌, ◌<◌, ◌≤◌, true, ◌&&◌, ◌==◌, [], ◌∷◌, length, drop, if◌then◌else◌, slice_index, Err, MatchResult, OnOk};
 ghost use Rattle.device.specs.Meaning.{blocks_of};
 ghost use Rattle.page.specs.Slot.{every};
-ghost use Rattle.page.specs.View.{view, entries};
+ghost use Rattle.page.specs.View.{pair, view, entries};
 ghost use Rattle.tree.specs.Layout.{next};
 ghost use Rattle.counts.specs.Keeping.{retained};
-ghost use Rattle.counts.specs.Moves.{Shaped};
 ghost use Rattle.model.specs.Walk.{ascending, starts, payable, well_made};
 ghost use Rattle.mount.specs.Due.{own_fault, first_fault, passes, refusal_of, Loaded};
 ghost use Rattle.mount.specs.Tally.{Room, tallied};
@@ -13,7 +12,7 @@ ghost use Rattle.mount.specs.Tally.{Room, tallied};
 use counts::Store;
 use device::{Device, DeviceFault};
 use model::Refusal;
-use page::page::Page;
+use page::page::{Entry, Page};
 
 // A device's fault, and the clone and block that were read.
 #[derive(Clone, Copy)]
@@ -62,13 +61,13 @@ fn is_ascending(page: &Page, high: u32) -> bool
         && entries.last().is_none_or(|last| last.speed < high)
 }
 
-fn is_payable(level: u32, speed: u32, value: u32, blocks: u32) -> bool
-    ensures { result ≡ payable blocks level (speed, value) }
+fn is_payable(entry: &Entry, level: u32, blocks: u32) -> bool
+    ensures { result ≡ payable blocks level (pair entry.now) }
 {
     if level == 0 {
-        value <= 18000
+        entry.value <= 18000
     } else {
-        2 <= value && value < blocks
+        2 <= entry.value && entry.value < blocks
     }
 }
 
@@ -77,7 +76,7 @@ fn are_payable(page: &Page, level: u32, blocks: u32) -> bool
 {
     page.entries
         .iter()
-        .all(|e| is_payable(level, e.speed, e.value, blocks))
+        .all(|entry| is_payable(entry, level, blocks))
 }
 
 fn starts_at(page: &Page, level: u32, low: u32) -> bool
@@ -105,7 +104,6 @@ fn is_well_made(page: &Page, due: Due, blocks: u32) -> bool
 fn load<D: Device>(store: &mut Store<D>, due: Due) -> Result<Page, Refusal>
     requires { due.block < blocks_of store.old.0 }
     ensures kept { store.new ≡ store.old }
-    ensures shape { Shaped store.old.0 store.old.1 }
     ensures answer { MatchResult result (λ p. Loaded store.old.0 due p) (λ e. Err e ≡ passes due.clone (own_fault store.old.0 due)) }
 {
     let Due { clone, block, .. } = due;
@@ -137,7 +135,6 @@ pub fn walk<D: Device>(store: &mut Store<D>, due: Due, counting: bool) -> Result
     requires low { due.level < 5 }
     requires room { counting ≡ true → Room store.old.0 store.old.1 (due.block ∷ []) }
     ensures kept { store.new.0 ≡ store.old.0 }
-    ensures shape { Shaped store.old.0 store.old.1 }
     ensures answer { result ≡ passes due.clone (first_fault store.old.0 due) }
     ensures counts { OnOk result (store.new.1 ≡ (if counting then tallied store.old.0 due.level due.block store.old.1 else store.old.1)) }
 {

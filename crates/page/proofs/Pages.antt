@@ -1,7 +1,7 @@
 -- Pages in memory, and their words.
-use Rattle.std.proofs.Common.{◌≡◌, ℕ, zero, suc, ◌<◌, List, [], ◌∷◌, map, length, get_or, Some, refl, ap, ◌∙◌, arith}
+use Rattle.std.proofs.Common.{◌≡◌, ℕ, zero, suc, ◌<◌, ◌≤◌, List, [], ◌∷◌, map, length, get_or, Some, refl, ap, ◌∙◌, arith}
 use Rattle.std.proofs.lemmas.List.{get_or-map, length-map}
-use Rattle.page.specs.Block.{children, kids_of}
+use Rattle.page.specs.Block.{children, kids_of, Layout}
 use Rattle.page.specs.View.{pair, entries, view}
 use Rattle.page.specs.declared.page.Entry.{Entry}
 use Rattle.page.specs.declared.page.Page.{Page}
@@ -11,6 +11,21 @@ entries_length p = length-map p.entries.items pair
 
 pub entries_at : (p : Page) (i : ℕ) (r : Entry) → i < length p.entries.items → get_or (entries p) i (0, 0) ≡ pair (get_or p.entries.items i r)
 entries_at p i r h = get_or-map pair p.entries.items i r (0, 0) h
+
+nought : Entry
+nought = record { speed = 0; value = 0; small = (omega arith, omega arith) }
+
+-- a page has words
+pub laid_out : (p : Page) (w : ℕ) → 32 ≤ w → p.level < 5 → Layout w (view p)
+laid_out p w h k = record {
+  wide = h;
+  few = omega (arith, entries_length p, p.few.0);
+  low = k;
+  small = λ i l.
+      let e = entries_at p i nought (omega (arith, entries_length p)) in
+      let it : Entry = get_or p.entries.items i nought in
+      (omega (arith, ap (λ (q : ℕ × ℕ). q.0) e, it.small.0), omega (arith, ap (λ (q : ℕ × ℕ). q.1) e, it.small.1));
+}
 
 kids_of_lem : (l : ℕ) (es : List (ℕ × ℕ)) → 0 < l → children l es ≡ map (λ e. e.1) es
 kids_of_lem zero es h = absurd (omega arith)

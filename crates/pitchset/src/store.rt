@@ -11,7 +11,7 @@ use device::Device;
 use page::io::{read_block, write_block};
 use page::page::{Entry, Page};
 use std::alloc::Global;
-use table::Row;
+use table::{Row, stored_angle};
 
 // Where the table is kept.
 pub(crate) const BLOCK: u32 = 2;
@@ -46,7 +46,7 @@ impl<'d, D: Device> TableStore<'d, D> {
         let leaf: Page = found.context("the block holds no table")?;
         let mut rows = Vec::new(heap);
         for entry in &leaf.entries {
-            let row = Row::new(entry.speed, entry.value as i32 - 9_000)?;
+            let row = Row::new(entry.speed, stored_angle(entry.value))?;
             rows.push(row)?;
         }
         Ok(rows)

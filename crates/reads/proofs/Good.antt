@@ -5,7 +5,8 @@ use Rattle.tree.specs.Node.{map_e, Asc}
 use Rattle.tree.specs.Tree.{Enough}
 use Rattle.tree.proofs.Laid.{same_rule}
 use Rattle.tree.proofs.Puts.{span_asc}
-use Rattle.model.specs.TreeBlocks.{tree_at, top_level, pay_at, angle}
+use Rattle.table.specs.Rows.{angle_of}
+use Rattle.model.specs.TreeBlocks.{tree_at, top_level, pay_at}
 use Rattle.reads.specs.Rows.{rows_on, GoodOn}
 use Rattle.reads.specs.Sound.{held, rows_in, rows_at, Sound, SoundAt}
 use Rattle.reads.proofs.Lists.{asc_below, each_both}
@@ -13,7 +14,7 @@ use Rattle.reads.proofs.Children.{inside, stands_block, block, length_held}
 
 pub record Start (m : Meaning) (h x : ℕ) : Type 0 where
   pub sound : SoundAt (current_at m) x
-  pub rows : rows_on m (h, x) ≡ map_e angle (rows_at (current_at m) x)
+  pub rows : rows_on m (h, x) ≡ map_e angle_of (rows_at (current_at m) x)
   pub ascending : Asc 0 10000 (rows_at (current_at m) x)
 
 pub start : (m : Meaning) (h x : ℕ) → GoodOn m (h, x) → Start m h x
@@ -34,6 +35,6 @@ start m h x g =
     } in
     record {
       sound = record { block = block c l x; stands = st; sound = so };
-      rows = ap (map_e angle) (rw st refl);
+      rows = ap (map_e angle_of) (rw st refl);
       ascending = rw st asc;
     }

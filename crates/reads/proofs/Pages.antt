@@ -11,7 +11,8 @@ use Rattle.page.proofs.Pages.{entries_length, entries_at}
 use Rattle.reads.specs.Sound.{Valid, rows_in, rows_at, Sound, SoundAt, FullAt}
 use Rattle.reads.proofs.Children.{to, leaf}
 use Rattle.reads.proofs.Places.{child_full, rows_next, due_from}
-use Rattle.model.specs.TreeBlocks.{angle, Each}
+use Rattle.table.specs.Rows.{angle_of}
+use Rattle.model.specs.TreeBlocks.{Each}
 use Rattle.tree.specs.Node.{map_e}
 use Rattle.reads.specs.Lists.{due}
 
@@ -91,12 +92,12 @@ next_of m x p k i e xs h u q l is =
 
 -- the rows from a speed on are those of the entries from the covering one on
 pub due_page : (m : Meaning) (x s k : ℕ) (p : Page) (xs : List Entry) → Here m x p → 0 < p.level → k < length p.entries.items → ((j : ℕ) → j < k → (get_or (entries p) (suc j) (0, 0)).0 ≤ s) → xs ≡ drop k p.entries.items
-    → due s (map_e angle (rows_in (current_at m) (level_of (block_at m x)) (map pair xs))) ≡ due s (map_e angle (rows_at (current_at m) x))
+    → due s (map_e angle_of (rows_in (current_at m) (level_of (block_at m x)) (map pair xs))) ≡ due s (map_e angle_of (rows_at (current_at m) x))
 unfolding block_at
 due_page m x s k p xs h u l past q =
     let c = current_at m in
     let level : level_of (block_in (c x)) ≡ p.level = ap level_of h.stands in
     let es : map pair xs ≡ drop k (entries p) = ap (map pair) q ∙ sym (drop-map pair k p.entries.items) in
-    ap (λ (n : ℕ). due s (map_e angle (rows_in c n (map pair xs)))) level ∙ ap (λ (z : List (ℕ × ℕ)). due s (map_e angle (rows_in c p.level z))) es
+    ap (λ (n : ℕ). due s (map_e angle_of (rows_in c n (map pair xs)))) level ∙ ap (λ (z : List (ℕ × ℕ)). due s (map_e angle_of (rows_in c p.level z))) es
     ∙ sym (due_from c p.level s (entries p) k u (omega (arith, entries_length p)) h.sound past)
-    ∙ ap (λ (n : ℕ). due s (map_e angle (rows_in c n (entries p)))) (sym level) ∙ ap (λ (z : List (ℕ × ℕ)). due s (map_e angle z)) (sym (page_rows m x p h))
+    ∙ ap (λ (n : ℕ). due s (map_e angle_of (rows_in c n (entries p)))) (sym level) ∙ ap (λ (z : List (ℕ × ℕ)). due s (map_e angle_of z)) (sym (page_rows m x p h))

@@ -5,7 +5,8 @@ use Rattle.std.proofs.lemmas.Bool.{cases_lt}
 use Rattle.std.specs.Option.{option_or}
 use Rattle.device.specs.Meaning.{Content}
 use Rattle.page.specs.Block.{Block, block_in, level_of}
-use Rattle.model.specs.TreeBlocks.{angle, Each}
+use Rattle.table.specs.Rows.{angle_of}
+use Rattle.model.specs.TreeBlocks.{Each}
 use Rattle.reads.specs.Sound.{Valid, rows_in, rows_at, Sound, FullAt}
 use Rattle.reads.specs.Descent.{child, child_before, Ends, Begins, Found}
 use Rattle.reads.specs.Lists.{due}
@@ -127,10 +128,10 @@ module _ (c : ℕ → Content) where
       ∙ ap (λ (y : ℕ). rows_in c (suc l) (take i (drop k es)) ++ rows_in c l (inside c y)) same ∙ ap (λ (z : List (ℕ × ℕ)). rows_in c (suc l) (take i (drop k es)) ++ z) (sym q.rows)
 
   -- the rows from a speed on are those of the child that covers it and of those after it
-  pub due_from : (n s : ℕ) (es : List (ℕ × ℕ)) (k : ℕ) → 0 < n → k < length es → Sound c n es → ((j : ℕ) → j < k → key c es (suc j) ≤ s) → due s (map_e angle (rows_in c n es)) ≡ due s (map_e angle (rows_in c n (drop k es)))
+  pub due_from : (n s : ℕ) (es : List (ℕ × ℕ)) (k : ℕ) → 0 < n → k < length es → Sound c n es → ((j : ℕ) → j < k → key c es (suc j) ≤ s) → due s (map_e angle_of (rows_in c n es)) ≡ due s (map_e angle_of (rows_in c n (drop k es)))
   due_from zero s es k u h p past = absurd (omega arith)
   due_from (suc l) s es k u h p past =
       let xs = rows_in c (suc l) (take k es) in
       let ys = rows_in c (suc l) (drop k es) in
-      ap (λ (z : List (ℕ × ℕ)). due s (map_e angle z)) (rows_split c (suc l) es k) ∙ ap (due s) (map-append angle xs ys) ∙ due_append s (map_e angle xs) (map_e angle ys)
-      ∙ ap (λ (z : List (ℕ × ℤ)). z ++ due s (map_e angle ys)) (due_below angle s xs (rows_before c l s es k h p past))
+      ap (λ (z : List (ℕ × ℕ)). due s (map_e angle_of z)) (rows_split c (suc l) es k) ∙ ap (due s) (map-append angle_of xs ys) ∙ due_append s (map_e angle_of xs) (map_e angle_of ys)
+      ∙ ap (λ (z : List (ℕ × ℤ)). z ++ due s (map_e angle_of ys)) (due_below angle_of s xs (rows_before c l s es k h p past))

@@ -1,30 +1,14 @@
 -- A tree of two leaves that was written block by block.
-use Rattle.std.proofs.Common.{◌≡◌, ℕ, ◌+◌, ◌<◌, ◌≤◌, List, [], ◌∷◌, get_or, Some, Option, refl, ap, ◌∙◌, ap₂, length-set, arith, rules}
+use Rattle.std.proofs.Common.{◌≡◌, ℕ, ◌+◌, ◌<◌, ◌≤◌, List, [], ◌∷◌, Some, Option, refl, ap, ◌∙◌, ap₂, length-set, arith, rules}
 use Rattle.device.specs.Meaning.{Meaning, Cell, blocks_of, current_at, written}
 use Rattle.device.proofs.Choices.{write_at, write_off}
-use Rattle.page.specs.Block.{Block, block_in, encode, Layout}
+use Rattle.page.specs.Block.{Block, block_in, encode}
 use Rattle.page.specs.View.{view, entries}
 use Rattle.page.specs.declared.page.Page.{Page}
-use Rattle.page.specs.declared.page.Entry.{Entry}
 use Rattle.page.proofs.Exact.{back}
-use Rattle.page.proofs.Pages.{entries_length, entries_at}
+use Rattle.page.proofs.Pages.{laid_out}
 use Rattle.model.specs.TreeBlocks.{tree_at}
 use Rattle.reads.specs.Rows.{GoodOn}
-
-nought : Entry
-nought = record { speed = 0; value = 0; small = (omega arith, omega arith) }
-
--- a page has words
-pub laid_out : (p : Page) (w : ℕ) → 32 ≤ w → p.level < 5 → Layout w (view p)
-laid_out p w h k = record {
-  wide = h;
-  few = omega (arith, entries_length p, p.few.0);
-  low = k;
-  small = λ i l.
-      let e = entries_at p i nought (omega (arith, entries_length p)) in
-      let it : Entry = get_or p.entries.items i nought in
-      (omega (arith, ap (λ (q : ℕ × ℕ). q.0) e, it.small.0), omega (arith, ap (λ (q : ℕ × ℕ). q.1) e, it.small.1));
-}
 
 -- what the device is for the blocks that are written next
 pub record Blank (m : Meaning) : Type 0 where

@@ -4,7 +4,8 @@ ghost use Rattle.device.specs.Meaning.{current_at};
 ghost use Rattle.tree.specs.Node.{map_e};
 ghost use Rattle.page.specs.View.{entries};
 ghost use Rattle.model.specs.Plain.{from};
-ghost use Rattle.model.specs.TreeBlocks.{angle, Each};
+ghost use Rattle.table.specs.Rows.{angle_of};
+ghost use Rattle.model.specs.TreeBlocks.{Each};
 ghost use Rattle.reads.specs.Rows.{rows_on, GoodOn};
 ghost use Rattle.reads.specs.Sound.{Valid, SoundAt, rows_at};
 ghost use Rattle.reads.specs.Lists.{row_in, due, written};
@@ -19,8 +20,8 @@ use table::Pair;
 // Writes a leaf's rows from a speed on to a slice, as many as it takes, and answers how many.
 fn list_leaf(leaf: &Page, speed: u32, out: &mut [Pair]) -> usize
     requires { Each Valid (entries leaf.now) }
-    ensures count { result ≡ min (length out.old) (length (due speed (map_e angle (entries leaf.now)))) }
-    ensures listed { out.new ≡ written (due speed (map_e angle (entries leaf.now))) out.old }
+    ensures count { result ≡ min (length out.old) (length (due speed (map_e angle_of (entries leaf.now)))) }
+    ensures listed { out.new ≡ written (due speed (map_e angle_of (entries leaf.now))) out.old }
 {
     let mut n = 0;
     for entry in leaf.entries.iter() {
@@ -36,8 +37,8 @@ fn list_leaf(leaf: &Page, speed: u32, out: &mut [Pair]) -> usize
 fn list_block<D: Device>(store: &mut Store<D>, block: u32, speed: u32, out: &mut [Pair]) -> usize
     requires { SoundAt (current_at store.old.0) block }
     ensures kept { store.new ≡ store.old }
-    ensures count { result ≡ min (length out.old) (length (due speed (map_e angle (rows_at (current_at store.old.0) block)))) }
-    ensures listed { out.new ≡ written (due speed (map_e angle (rows_at (current_at store.old.0) block))) out.old }
+    ensures count { result ≡ min (length out.old) (length (due speed (map_e angle_of (rows_at (current_at store.old.0) block)))) }
+    ensures listed { out.new ≡ written (due speed (map_e angle_of (rows_at (current_at store.old.0) block))) out.old }
 {
     if out.is_empty() {
         return 0;

@@ -1,13 +1,13 @@
 // The angle of a row, and the angle at a speed.
 ghost use Rattle.std.specs.Prelude.{◌≡◌};
-ghost use Rattle.std.specs.Option.{option_map};
 ghost use Rattle.device.specs.Meaning.{current_at};
-ghost use Rattle.table.specs.Rows.{pair_of};
-ghost use Rattle.table.specs.Angles.{up_to, past, angle_at};
+ghost use Rattle.table.specs.Rows.{pair_of, angle_of};
+ghost use Rattle.table.specs.Angles.{angle_at};
+ghost use Rattle.table.specs.Around.{StandsAround};
 ghost use Rattle.tree.specs.Node.{map_e};
 ghost use Rattle.tree.specs.Reads.{look};
 ghost use Rattle.page.specs.View.{pair, entries};
-ghost use Rattle.model.specs.TreeBlocks.{angle, Each};
+ghost use Rattle.model.specs.TreeBlocks.{Each};
 ghost use Rattle.reads.specs.Rows.{rows_on, GoodOn};
 ghost use Rattle.reads.specs.Sound.{Valid};
 ghost use Rattle.reads.specs.Descent.{Beside, rows_beside};
@@ -17,12 +17,12 @@ use counts::Store;
 use device::Device;
 use page::page::{Entry, Page};
 use page::roots::Root;
-use table::{Row, angle_by};
+use table::{Around, Row, angle_by};
 
 // The row of an entry of a leaf.
 pub fn row_of(entry: Entry) -> Row
     requires { Valid (pair entry) }
-    ensures { pair_of result ≡ (entry.speed, angle entry.value) }
+    ensures { pair_of result ≡ (entry.speed, angle_of entry.value) }
 {
     Row::from_stored(entry.speed, entry.value)
 }
@@ -30,7 +30,7 @@ pub fn row_of(entry: Entry) -> Row
 // The angle of a leaf's row of a speed, if there is one.
 fn look_in(leaf: &Page, speed: u32) -> Option<i32>
     requires { Each Valid (entries leaf.now) }
-    ensures { result ≡ look speed (map_e angle (entries leaf.now)) }
+    ensures { result ≡ look speed (map_e angle_of (entries leaf.now)) }
 {
     let entry = leaf.entries.iter().find(|entry| speed == entry.speed)?;
     Some(row_of(*entry).angle)
@@ -46,37 +46,27 @@ pub fn get<D: Device>(store: &mut Store<D>, root: Root, speed: u32) -> Option<i3
     look_in(&place.leaf, speed)
 }
 
-// The last row of a leaf at or below a speed, and the first above it.
-fn around(leaf: &Page, speed: u32) -> (Option<Row>, Option<Row>)
+// The rows of a leaf on either side of a speed.
+fn around(leaf: &Page, speed: u32) -> Around
     requires { Each Valid (entries leaf.now) }
-    ensures before { option_map pair_of result.0 ≡ up_to speed (map_e angle (entries leaf.now)) }
-    ensures after { option_map pair_of result.1 ≡ past speed (map_e angle (entries leaf.now)) }
+    ensures { StandsAround speed (map_e angle_of (entries leaf.now)) result }
 {
-    let mut before: Option<Row> = None;
+    let mut around = Around::default();
     for entry in leaf.entries.iter() {
-        let row = row_of(*entry);
-        if row.speed > speed {
-            return (before, Some(row));
-        }
-        before = Some(row);
+        around = around.with(row_of(*entry), speed);
     }
-    (before, None)
+    around
 }
 
 // The same over the rows of a block, if there is one, that are all on one side of the speed: the row that is nearest to it.
-fn nearest<D: Device>(
-    store: &mut Store<D>,
-    block: Option<u32>,
-    speed: u32,
-) -> (Option<Row>, Option<Row>)
+fn nearest<D: Device>(store: &mut Store<D>, block: Option<u32>, speed: u32) -> Around
     requires { Beside (current_at store.old.0) speed block }
     ensures kept { store.new ≡ store.old }
-    ensures before { option_map pair_of result.0 ≡ up_to speed (map_e angle (rows_beside (current_at store.old.0) block)) }
-    ensures after { option_map pair_of result.1 ≡ past speed (map_e angle (rows_beside (current_at store.old.0) block)) }
+    ensures nearest { StandsAround speed (map_e angle_of (rows_beside (current_at store.old.0) block)) result }
 {
     match block {
         Some(block) => around(&descend(store, block, speed).leaf, speed),
-        None => (None, None),
+        None => Around::default(),
     }
 }
 
@@ -88,9 +78,10 @@ pub fn at<D: Device>(store: &mut Store<D>, root: Root, speed: u32) -> Option<i32
     ensures answer { result ≡ angle_at speed (rows_on store.old.0 (root.height, root.block)) }
 {
     let place = descend(store, root.block, speed);
-    match around(&place.leaf, speed) {
-        (Some(before), Some(after)) => angle_by(Some(before), Some(after), speed),
-        (None, after) => angle_by(nearest(store, place.left, speed).0, after, speed),
-        (before, None) => angle_by(before, nearest(store, place.right, speed).1, speed),
+    let Around { below, above } = around(&place.leaf, speed);
+    match (below, above) {
+        (Some(below), Some(above)) => angle_by(Some(below), Some(above), speed),
+        (None, above) => angle_by(nearest(store, place.left, speed).below, above, speed),
+        (below, None) => angle_by(below, nearest(store, place.right, speed).above, speed),
     }
 }

@@ -216,13 +216,6 @@ pub entry_read : (p : Page) (j i : ℕ) (d : Entry) (xs : List Entry) → i ≡ 
 entry_read p j i d items e h same =
     entries_at p j d h ∙ ap₂ (λ (zs : List Entry) (k : ℕ). pair (get_or zs k d)) (sym same) (sym e)
 
--- two readings of a block
-pub same_length : (m : Meaning) (b : ℕ) (x y : Page) → block_at m b ≡ Some (view x) → block_at m b ≡ Some (view y) → length x.entries.items ≡ length y.entries.items
-same_length m b x y t u =
-    let q : Some (view x) ≡ Some (view y) = sym t ∙ u in
-    let v : view x ≡ view y = cc in
-    omega (arith, ap (λ (z : Block). length z.entries) v, entries_length x, entries_length y)
-
 -- where the level is not named
 module _ (m : Meaning) (cs : List ℕ) (n : Block) (s : ℕ) (a : AbleIndex m cs n s) where
   pub two : 2 ≤ length n.entries

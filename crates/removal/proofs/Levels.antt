@@ -63,7 +63,6 @@ rem_writes gs s (suc l) lo hi es p low high two =
 pub record Linkable (q : State) (hs : List ℕ) : Type 0 where
   pub wide : 32 ≤ q.0.width
   pub left : 2 ≤ q.0.left
-  pub few : length q.1 ≤ 4096
   pub two : 2 ≤ length hs
   pub places : Open q.0 q.1 hs 0
 
@@ -161,7 +160,6 @@ module _ (m : Meaning) (cs : List ℕ) (n : Block) (s l : ℕ) (es : List (ℕ �
           record {
             wide = omega (arith, p.wide.0, z₁.width, z₂.width);
             left = omega (arith, r.left, z₁.left, z₂.left, w, opens_writes S.mid);
-            few = omega (arith, p.size, z₁.counts, z₂.counts);
             two = omega (arith, ap length taken ∙ length-drop (2 * f.part.level) gs, part_level, enough);
             places = record {
               left_on = omega (arith, a.0, z₂.blocks, left_is);
@@ -171,6 +169,7 @@ module _ (m : Meaning) (cs : List ℕ) (n : Block) (s l : ℕ) (es : List (ℕ �
               right_in = omega (arith, b.1, z₂.counts, right_is);
               right_free = ap (λ (x : ℕ). get_or q₂.1 x 0) right_is ∙ far (2 * l + 1) (omega arith) (omega arith);
               apart = λ e. free.apart (2 * l) (2 * l + 1) (omega arith) (omega arith) (sym left_is ∙ e ∙ right_is);
+              few = omega (arith, p.size, z₁.counts, z₂.counts);
             };
           }
 

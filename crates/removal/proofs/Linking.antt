@@ -6,7 +6,7 @@ use Rattle.page.specs.View.{view, entries}
 use Rattle.page.specs.declared.page.Page.{Page}
 use Rattle.counts.specs.Moves.{Laid}
 use Rattle.edit.specs.Plan.{page, placed, links}
-use Rattle.edit.proofs.Laying.{laid_out}
+use Rattle.page.proofs.Pages.{laid_out}
 use Rattle.removal.specs.declared.filled.Neighbour.{Neighbour}
 use Rattle.removal.specs.declared.filled.Neighbour.TheVariants.{Apart, Merged, After, Before}
 use Rattle.removal.specs.declared.filled.Filled.{Filled}

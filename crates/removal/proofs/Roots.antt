@@ -22,12 +22,12 @@ use Rattle.edit.specs.Kept.{Free, Stands}
 use Rattle.edit.specs.Fill.{opens}
 use Rattle.edit.specs.Remove.{rem_n, rem_moves}
 use Rattle.edit.specs.Edited.{Editable, Granted, Edited}
-use Rattle.edit.proofs.States.{Same, same_by, run_same, run_append}
+use Rattle.edit.proofs.States.{Same, same_by, run_append}
 use Rattle.edit.proofs.Downs.{shallow_length}
 use Rattle.edit.proofs.Keeps.{free_open, link_stored, link_counted}
 use Rattle.edit.proofs.Removes.{remove_keeps}
-use Rattle.edit.proofs.Traces.{linked, ops, run_replay, ops_targets, ops_free, each_linked}
-use Rattle.edit.proofs.Trees.{Spare, Rooted, Topmost, to_model}
+use Rattle.edit.proofs.Traces.{linked, each_linked}
+use Rattle.edit.proofs.Trees.{Spare, Rooted, Topmost, edited_by}
 use Rattle.edit.proofs.Editing.{rooted, frees_inside, good_after}
 use Rattle.removal.specs.Split.{Side, apart, merged, after, before, parts, olds, key_at}
 use Rattle.removal.specs.Able.{Ready, Able, Room, Made}
@@ -151,22 +151,6 @@ module _ (m : Meaning) (cs gs : List ℕ) (root : Root) (s : ℕ) (r : model.Tre
   each : Each (Spare m cs) (linked ms)
   each = rem_each gs (Spare m cs) s l 0 10000 es p.wf.0 (omega arith) p.speed two (λ j lt. spare j (omega arith))
 
-  -- moves that leave a tree v, which is the new one
-  edited_by : (v : model.Tree) (vs : List Move) → v ≡ u → Each (Spare m cs) (linked vs) → ((b : ℕ) → occ b (linked vs) ≡ occ b (new_blocks (takes s) (free_blocks cs) r))
-      → Stored (block_at (run vs q₀).0) (suc v.0) v.1 → Counted (block_at (run vs q₀).0) (run vs q₀).1 (λ b. one v.1.0 b + h b) → (q : State) → q ≡ run vs q₀ → Edited (takes s) r m cs q.0 q.1
-  edited_by v vs e free once st ct q eq =
-      let z : State = run vs q₀ in
-      let cu : Counted (block_at z.0) z.1 (λ b. one u.1.0 b + h b) = subst (λ (v : model.Tree). Counted (block_at z.0) z.1 (λ b. one v.1.0 b + h b)) e ct in
-      subst (λ (z : State). Edited (takes s) r m cs z.0 z.1) (sym eq) (record {
-        os = ops m.width vs;
-        trace = run_replay vs q₀;
-        free = ops_free m cs m.width vs free;
-        once = λ b. ap (occ b) (ops_targets m.width vs) ∙ once b;
-        stored = subst (model.Stored (current_at z.0)) e (to_model z.0 v st);
-        counted = λ h' c. recount (λ b. one u.1.0 b + h b) (λ b. one u.1.0 b + h' b) (λ b. omega (arith, c.eqn b, p.counted.eqn b)) cu;
-        sized = (run_same vs q₀).counts;
-      })
-
   held : Counted (block_at m) cs (λ b. one root.1 b + h b)
   held = subst (λ (x : ℕ). Counted (block_at m) cs (λ b. one x b + h b)) p.at p.counted
 
@@ -262,7 +246,7 @@ module _ (m : Meaning) (cs gs : List ℕ) (root : Root) (s : ℕ) (r : model.Tre
 
         pub way_edited : Edited (takes s) r m cs q₂.0 q₂.1
         way_edited =
-            edited_by v (opening root.1 ∷ ms) (sym u_is) each
+            edited_by m cs (takes s) r h p.counted v (opening root.1 ∷ ms) (sym u_is) each
             (λ b. sym (aimed b) ∙ sym (way_places pick b l us' (omega (arith, high, made_level)) (omega (arith, n, made_length, same_length))))
             (w.stored stands.stored) ct q₂ end
 
@@ -307,7 +291,7 @@ module _ (m : Meaning) (cs gs : List ℕ) (root : Root) (s : ℕ) (r : model.Tre
             let wy : y < length z₂.1 = omega (arith, same.counts, same₁.counts, o.1, y_is) in
             let oy : y < blocks_of z₂.0 = omega (arith, same.blocks, same₁.blocks, o.0, y_is) in
             let ly : Layout z₂.0.width (node_of l us) = subst (Layout z₂.0.width) M.is (subst (λ (z : State). Layout z.0.width made) end laid) in
-            edited_by (l, (y, us)) vs kept
+            edited_by m cs (takes s) r h p.counted (l, (y, us)) vs kept
             (each_linked gs (Spare m cs) ms top each (subst (Spare m cs) (sym y_is) (spare (2 * l) (omega arith)), tt))
             (λ b.
             let pl : occ b (map pick (places ℕ (lower (Option ℕ) ℕ l (None, us')))) ≡ one (pick (2 * l)) b + occ b (map pick (collect ℕ ℕ (its_place ℕ) l us')) =

@@ -64,15 +64,17 @@ fn fill_left<D: Device>(store: &mut Store<D>, page: &Page, i: usize, speed: u32)
     ensures { (l : ℕ) (es : List (ℕ × Tree ℕ ℕ l)) → Ready store.old.0 store.old.1 (view page.now) speed (suc l) es → Filling store.old.0 store.old.1 store.new.0 store.new.1 speed l es result }
 {
     let last = page.entries[i + 1].value;
-    if store.read_page(last).entries.len() != FEWEST {
+    let child = store.read_page(last);
+    if child.entries.len() != FEWEST {
+        store.open_page(last, &child);
         return Filled {
             at: i + 1,
-            part: store.open(last),
+            part: child,
             neighbour: Neighbour::Apart,
         };
     }
     let before = store.open(page.entries[i].value);
-    let child = store.open(last);
+    store.open_page(last, &child);
     let len = before.entries.len();
     if len == FEWEST {
         return Filled {
@@ -112,7 +114,6 @@ fn link_parts<D: Device>(
     requires places { Open store.old.0 store.old.1 grant.old 0 }
     requires two { 2 ≤ length grant.old }
     requires left { 2 ≤ store.old.0.left }
-    requires few { length store.old.1 ≤ 4096 }
     requires level { made.now.level < 5 }
     requires whole { Whole made.now.level filled.now.part filled.now.neighbour }
     requires within { end_of filled.now ≤ length page.now.entries.items }

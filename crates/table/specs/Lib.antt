@@ -1,3 +1,4 @@
 pub mod Rows
 pub mod Angles
+pub mod Around
 pub mod Summaries

@@ -3,6 +3,7 @@ ghost use Rattle.table.specs.Rows.{pair_of};
 ghost use Rattle.std.specs.Option.{option_map};
 ghost use Rattle.table.specs.Angles.{between, angle_by, angle_at};
 
+use super::around::Around;
 use super::row::Row;
 
 // The angle at a speed between two rows; from the upper row on its own, and up to the lower row its own.
@@ -36,12 +37,9 @@ pub fn angle_by(before: Option<Row>, after: Option<Row>, speed: u32) -> Option<i
 pub fn angle_at(rows: &[Row], speed: u32) -> Option<i32>
     ensures { result ≡ angle_at speed (map pair_of rows.now) }
 {
-    let mut before: Option<Row> = None;
+    let mut around = Around::default();
     for row in rows {
-        if row.speed > speed {
-            return angle_by(before, Some(*row), speed);
-        }
-        before = Some(*row);
+        around = around.with(*row, speed);
     }
-    angle_by(before, None, speed)
+    angle_by(around.below, around.above, speed)
 }

@@ -2,6 +2,7 @@
 #![tactic(auto)]
 
 mod angle;
+mod around;
 mod kinds;
 mod making;
 mod pair;
@@ -10,7 +11,9 @@ mod summary;
 mod summing;
 
 pub use angle::{angle_at, angle_between, angle_by};
+pub use around::Around;
 pub use kinds::{Count, Extent, Span, Sum};
+pub use making::stored_angle;
 pub use pair::Pair;
 pub use row::{Row, RowFault};
 pub use summary::Summary;
@@ -31,16 +34,7 @@ mod tests {
 
     #[test]
     fn angles_between_rows(rt: HostRuntime) {
-        let rows = [
-            Row {
-                speed: 400,
-                angle: -100,
-            },
-            Row {
-                speed: 1_200,
-                angle: 250,
-            },
-        ];
+        let rows = two_rows();
         assert!(rt; angle_at(&rows, 399) == Some(-100));
         assert!(rt; angle_at(&rows, 400) == Some(-100));
         assert!(rt; angle_at(&rows, 800) == Some(75));

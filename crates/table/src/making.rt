@@ -1,7 +1,15 @@
-ghost use Rattle.std.specs.Prelude.{◌≡◌, ◌≤◌};
+ghost use Rattle.std.specs.Prelude.{◌≡◌, ℕ, ◌^◌, ◌<◌, ◌≤◌};
 ghost use Rattle.table.specs.Rows.{pair_of, checked_row, shown, payload_of, angle_of, fault_number};
 
 use super::row::{Row, RowFault};
+
+// The angle that a payload stands for, as a stored word holds it.
+pub fn stored_angle(payload: u32) -> i32
+    requires { payload < 2 ^ 31 }
+    ensures { result ≡ angle_of payload }
+{
+    payload as i32 - 9_000
+}
 
 impl Row {
     // A row of any two numbers that are in their ranges; the speed is looked at first.
@@ -33,7 +41,7 @@ impl Row {
     {
         Row {
             speed,
-            angle: payload as i32 - 9_000,
+            angle: stored_angle(payload),
         }
     }
 }

@@ -1,5 +1,5 @@
 -- A changed tree takes its place: the call's effect, and a sound volume again.
-use Rattle.std.proofs.Common.{◌≡◌, ℕ, zero, suc, ◌+◌, ◌<◌, ◌≤◌, T, List, [], ◌∷◌, length, get_or, set, ltb, Some, None, ℤ, pos, negsuc, sym, refl, ap, ◌∙◌, subst, ap₂, arith, length-set}
+use Rattle.std.proofs.Common.{◌≡◌, ℕ, ◌+◌, ◌<◌, ◌≤◌, T, List, [], ◌∷◌, length, get_or, set, ltb, Some, None, sym, refl, ap, ◌∙◌, subst, ap₂, arith, length-set}
 use Rattle.device.specs.Meaning.{Content, Meaning, blocks_of, current_at}
 use Rattle.device.specs.Cuts.{Op, Op.write, Op.flush, replay}
 use Rattle.device.proofs.Choices.{blocks_replay, width_replay}
@@ -10,11 +10,8 @@ use Rattle.page.specs.Io.{Wide}
 use Rattle.counts.proofs.Opens.{recount}
 use Rattle.counts.proofs.Steps.{alive_is_reached}
 use Rattle.model.specs.declared.refusal.Refusal.TheVariants.{Short, Worn}
-use Rattle.tree.proofs.Puts.{five_high}
-use Rattle.tree.proofs.Laid.{same_rule}
-use Rattle.table.specs.Rows.{payload_of}
 use Rattle.model.specs.Plain.{first, place}
-use Rattle.model.specs.TreeBlocks.{Tree, Change, Change.begin, Change.puts, Change.takes, changed_on, new_blocks, bare_tree, root_of, tree_at, top_level, raw, elem, Each, Good, AllGood, Stored}
+use Rattle.model.specs.TreeBlocks.{Tree, Change, Change.begin, Change.puts, Change.takes, changed_on, new_blocks, bare_tree, root_of, tree_at, elem, Each, Good, AllGood, Stored}
 use Rattle.model.specs.Model.{used, free, height, needs, source, tree_of, new_tree}
 use Rattle.model.specs.World.{Tables, Mode.mounted, placed, model_of, shape, trees, FreeWrite, Changed, sizes}
 use Rattle.model.specs.Reach.{rootings}
@@ -27,19 +24,6 @@ use Rattle.model.proofs.Reach.{use_is_reach, free_by_counts}
 use Rattle.edit.specs.Edited.{Counting, Editable, WritesFree, given_up, Edited}
 use Rattle.volume.specs.Kept.{Kept, lacking}
 use Rattle.volume.proofs.Places.{root_in, others, roots_split, roots_placed, few_rootings}
-
-pub raw_payload : (a : ℤ) → payload_of a ≡ raw a
-raw_payload (pos n) = refl
-raw_payload (negsuc n) = omega arith
-
--- a tree is at most five blocks high
-pub five : (n : ℕ) (c : ℕ → Content) (r : Root) → Good n c r → r.0 ≤ 5
-unfolding tree_at
-five n c r g = low r.0 (five_high ℕ ℕ (tree_at c r).0 (tree_at c r).1 ((same_rule ℕ ℕ (tree_at c r).0 (tree_at c r).1).1 g.fit.laid))
-  where
-    low : (h : ℕ) → top_level h ≤ 4 → h ≤ 5
-    low zero q = omega arith
-    low (suc l) q = omega arith
 
 pub root_block : (c : ℕ → Content) (r : Root) → (tree_at c r).1.0 ≡ r.1
 unfolding tree_at

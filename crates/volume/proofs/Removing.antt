@@ -1,39 +1,16 @@
 -- The call that takes a row out: it is there, or not.
-use Rattle.std.proofs.Common.{◌≡◌, ℕ, ◌+◌, ◌*◌, Bool, true, false, ◌||◌, cond, eqb, List, [], ◌∷◌, Some, None, Ok, Err, Option, ℤ, is_some, sym, refl, ap, ◌∙◌, subst}
+use Rattle.std.proofs.Common.{◌≡◌, ℕ, ◌+◌, ◌*◌, Bool, true, false, cond, List, [], Some, None, Ok, Err, Option, ℤ, is_some, sym, refl, ap, ◌∙◌, subst}
 use Rattle.device.specs.Meaning.{Meaning}
 use Rattle.device.specs.Cuts.{Op, replay}
 use Rattle.tree.specs.Reads.{look}
 use Rattle.model.specs.declared.refusal.Refusal.{Refusal}
-use Rattle.model.specs.Plain.{Map, Ask.remove, early, has, place, map_at}
-use Rattle.model.specs.TreeBlocks.{Tree, bare_tree, Change.takes, elem, keys, keys_of, rows_of}
-use Rattle.model.specs.Model.{Model, Shapes, maps_of, holds, late, needs, height, tree_of}
+use Rattle.model.specs.Plain.{Ask.remove, early, has}
+use Rattle.model.specs.TreeBlocks.{Change.takes}
+use Rattle.model.specs.Model.{Shapes, holds, late, needs, height}
 use Rattle.model.specs.World.{Tables, Mode.mounted, shape, model_of, Changed, Effect, Quiet}
-use Rattle.model.proofs.Places.{maps_place, rows_of?, form_at_lem}
-use Rattle.model.proofs.TreeLaws.{keys_form}
-use Rattle.page.specs.Slot.{Root}
+use Rattle.model.proofs.Right.{holds_find}
 use Rattle.volume.specs.Kept.{Called, rows_of_clone}
 use Rattle.volume.proofs.Asking.{denied_late, accepted}
-
-map_is : (M : Model) (n : ℕ) → map_at (maps_of M.working) n ≡ rows_of (tree_of M n)
-map_is M n = ap (λ o. elim o as (λ _. Map) [ Some m ↦ m | None ↦ [] ]) (maps_place M.working n) ∙ go (place M.working n)
-  where
-    go : (o : Option (Root × Tree)) → elim (rows_of? o) as (λ _. Map) [ Some m ↦ m | None ↦ [] ] ≡ rows_of (elim o as (λ _. Tree) [ Some x ↦ x.1 | None ↦ bare_tree ])
-    go None = refl
-    go (Some x) = refl
-
-found_is : (s : ℕ) (rs : Map) → elem s (keys rs) ≡ is_some (look s rs)
-found_is s [] = refl
-found_is s (r ∷ rs) = go (eqb s r.0) (found_is s rs)
-  where
-    go : (k : Bool) → elem s (keys rs) ≡ is_some (look s rs) → (k || elem s (keys rs)) ≡ is_some (cond k (Some r.1) (look s rs))
-    go true e = refl
-    go false e = e
-
--- whether the clone has the row
-pub holds_is : (v : Tables × Meaning) (n s : ℕ) → holds (shape v.0 v.1) n s ≡ is_some (look s (rows_of_clone v n))
-holds_is v n s =
-    let M = model_of v.0 v.1 in
-    ap (λ f. elem s (keys_of f)) (sym (form_at_lem M n)) ∙ ap (elem s) (keys_form (tree_of M n)) ∙ found_is s (rows_of (tree_of M n)) ∙ ap (λ rs. is_some (look s rs)) (sym (map_is M n))
 
 module _ (v : Tables × Meaning) (n s : ℕ) (k : early (has v.0.working) (remove n s) ≡ None) where
   abbrev S : Shapes
@@ -45,14 +22,14 @@ module _ (v : Tables × Meaning) (n s : ℕ) (k : early (has v.0.working) (remov
   -- it has none: nothing changes
   pub removed_none : (a : Option ℤ) → a ≡ None → a ≡ x → (w : Tables × Meaning) → w ≡ v → Called (remove n s) x v (Ok a) w
   removed_none a none is w same =
-      let h : holds S n s ≡ false = holds_is v n s ∙ ap is_some (sym is ∙ none) in
+      let h : holds S n s ≡ false = holds_find (model_of v.0 v.1) n s ∙ ap is_some (sym is ∙ none) in
       let l : late S (remove n s) ≡ None = ap (λ (b : Bool). cond b (needs S n (2 * height S n + 1)) None) h in
       let e : Effect v.0 v.1 (remove n s) [] (mounted v.0) v.1 = subst (λ (b : Bool). cond b (Changed v.0 v.1 n (takes s) [] (mounted v.0) v.1) (Quiet (mounted v.0) [] (mounted v.0))) (sym h) (refl, refl) in
       subst (λ w. Called (remove n s) x v (Ok a) w) (sym same) (subst (λ y. Called (remove n s) x v (Ok y) v) (sym is) (accepted v.0 v.1 (remove n s) x k l [] v.0 v.1 refl e))
 
   module _ (a : ℤ) (is : Some a ≡ x) where
     there : holds S n s ≡ true
-    there = holds_is v n s ∙ ap is_some (sym is)
+    there = holds_find (model_of v.0 v.1) n s ∙ ap is_some (sym is)
 
     pub removed_late : (e : Refusal) → needs S n (2 * height S n + 1) ≡ Some e → Called (remove n s) x v (Err e) v
     removed_late e l = denied_late v.0 v.1 (remove n s) x e k (ap (λ (b : Bool). cond b (needs S n (2 * height S n + 1)) None) there ∙ l)

@@ -61,7 +61,6 @@ pub link_kids-kids-requires : goal.link_kids-kids-requires
 link_kids-kids-requires g t c =
     let L = link g t (goal.at.link_kids-kids-requires g t c).After-put_in-made in
     record {
-      few = L.few;
       places = L.places;
       two = L.two;
       left = L.left;

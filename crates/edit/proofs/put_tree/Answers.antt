@@ -6,7 +6,7 @@ use Rattle.page.specs.declared.page.Entry.{Entry}
 use Rattle.page.proofs.Pages.{entries_length, entries_at}
 use Rattle.model.specs.TreeBlocks.{Tree, tree_at}
 use Rattle.edit.specs.Able.{Made}
-use Rattle.edit.proofs.Laying.{laid_out}
+use Rattle.page.proofs.Pages.{laid_out}
 use Rattle.edit.proofs.Anyhow.{next_place}
 use Rattle.edit.proofs.Trees.{Rooted, Topmost, top_ready, top_able, many, one_small, one_root, one_edited, link_able, more_root, more_edited}
 use Rattle.edit.proofs.Editing.{whole, all_taken, rooted, good_put}

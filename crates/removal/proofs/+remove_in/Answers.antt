@@ -84,7 +84,6 @@ link_parts-requires g t c =
       places = L.places;
       two = L.two;
       left = L.left;
-      few = L.few;
       level = low g t m (A g t d) (F g t d) (room g t d) (level g t d);
       whole = kept g t m (A g t d) (F g t d) (room g t d) (level g t d);
       within = omega (arith, within _ _ _ _ _ _ (A g t d).ready _ _ (F g t d) _ _ _ (M g t m (A g t d) (F g t d) (room g t d) (level g t d)), entries_length c.args.page.now);

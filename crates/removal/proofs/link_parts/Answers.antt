@@ -21,7 +21,7 @@ pub invariant_of-right : goal.invariant_of-right
 invariant_of-right g c = record {
   small = (
     omega (arith, c.first_speed.ensures, first_small c.in-After.rest),
-    omega (arith, right g (goal.at.invariant_of-right g c).After-take _ _ c.take-in-After.ensures, c.requires.places.right_in, c.requires.few),
+    omega (arith, right g (goal.at.invariant_of-right g c).After-take _ _ c.take-in-After.ensures, c.requires.places.right_in, c.requires.places.few),
   );
 }
 
@@ -29,7 +29,7 @@ pub invariant_of-right-in-Before : goal.invariant_of-right-in-Before
 invariant_of-right-in-Before g c = record {
   small = (
     omega (arith, c.first_speed-in-Before.ensures, first_small c.args.filled.now.part),
-    omega (arith, right g (goal.at.invariant_of-right-in-Before g c).After-take _ _ c.take-in-Before.ensures, c.requires.places.right_in, c.requires.few),
+    omega (arith, right g (goal.at.invariant_of-right-in-Before g c).After-take _ _ c.take-in-Before.ensures, c.requires.places.right_in, c.requires.places.few),
   );
 }
 

@@ -3,7 +3,7 @@ use Rattle.device.specs.Meaning.{current_at}
 use Rattle.page.specs.View.{view, entries}
 use Rattle.page.proofs.Pages.{entries_length}
 use Rattle.model.specs.TreeBlocks.{Tree, tree_at}
-use Rattle.edit.proofs.Laying.{laid_out}
+use Rattle.page.proofs.Pages.{laid_out}
 use Rattle.edit.proofs.Anyhow.{next_place}
 use Rattle.edit.proofs.Trees.{Rooted, Topmost}
 use Rattle.edit.proofs.Editing.{whole, rooted}

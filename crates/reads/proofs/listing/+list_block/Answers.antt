@@ -9,7 +9,7 @@ use Rattle.page.proofs.Pages.{entries_length}
 use Rattle.table.specs.declared.pair.Pair.{Pair}
 use Rattle.tree.specs.Node.{map_e}
 use Rattle.tree.proofs.Over.{map-append}
-use Rattle.model.specs.TreeBlocks.{angle}
+use Rattle.table.specs.Rows.{angle_of}
 use Rattle.reads.specs.Sound.{SoundAt, rows_at, rows_in}
 use Rattle.reads.specs.Lists.{due, written}
 use Rattle.reads.proofs.Pages.{here, readable, of_full, leaf_rows, leaf_valid, next_of, due_page}
@@ -18,7 +18,7 @@ use Rattle.reads.proofs.Written.{due_append, both, empty_slice}
 use Rattle.reads.proofs.listing.+list_block.Goals as goal
 
 pub returns-then-is_empty-clause-listed : goal.returns-then-is_empty-clause-listed
-returns-then-is_empty-clause-listed g t c = empty_slice (due c.args.speed (map_e angle (rows_at (current_at c.args.store.now.0) c.args.block))) c.args.out.now (sym c.is_empty.ensures ∙ c.if-is_empty.true)
+returns-then-is_empty-clause-listed g t c = empty_slice (due c.args.speed (map_e angle_of (rows_at (current_at c.args.store.now.0) c.args.block))) c.args.out.now (sym c.is_empty.ensures ∙ c.if-is_empty.true)
 
 pub read_page-page-requires : goal.read_page-page-requires
 read_page-page-requires g t c = readable c.args.store.now.0 c.args.block c.requires
@@ -34,14 +34,14 @@ returns-then-page-eq0-clause-count g t c =
     let m = c.args.store.now.0 in
     let p = c.read_page-page.result in
     c.list_leaf.ensures.count
-    ∙ ap (λ (z : List (ℕ × ℕ)). min (length c.args.out.now) (length (due c.args.speed (map_e angle z)))) (sym (leaf_rows m c.args.block p (here m c.args.block p c.requires c.read_page-page.ensures.page) c.if-page-eq0.true))
+    ∙ ap (λ (z : List (ℕ × ℕ)). min (length c.args.out.now) (length (due c.args.speed (map_e angle_of z)))) (sym (leaf_rows m c.args.block p (here m c.args.block p c.requires c.read_page-page.ensures.page) c.if-page-eq0.true))
 
 pub returns-then-page-eq0-clause-listed : goal.returns-then-page-eq0-clause-listed
 returns-then-page-eq0-clause-listed g t c =
     let m = c.args.store.now.0 in
     let p = c.read_page-page.result in
     c.list_leaf.ensures.listed
-    ∙ ap (λ (z : List (ℕ × ℕ)). written (due c.args.speed (map_e angle z)) c.args.out.now) (sym (leaf_rows m c.args.block p (here m c.args.block p c.requires c.read_page-page.ensures.page) c.if-page-eq0.true))
+    ∙ ap (λ (z : List (ℕ × ℕ)). written (due c.args.speed (map_e angle_of z)) c.args.out.now) (sym (leaf_rows m c.args.block p (here m c.args.block p c.requires c.read_page-page.ensures.page) c.if-page-eq0.true))
 
 pub covering-first-requires : goal.covering-first-requires
 covering-first-requires g t c =
@@ -77,12 +77,12 @@ loop-entry-preserved g t c =
     let xs = take (length ys - k) (drop k ys) in
     let lv = level_of (block_at m c.args.block) in
     let n = next_of m c.args.block p k i e xs (here m c.args.block p c.requires c.read_page-page.ensures.page) (omega (arith, c.if-page-eq0.false)) (rest ys p.entries.items k c.deref.ensures.0) c.loop-entry-test.true c.entry-item.is in
-    let old = due s (map_e angle (rows_in (current_at m) lv (map pair (take i xs)))) in
-    let new : Meaning × List ℕ → List (ℕ × ℤ) = λ (q : Meaning × List ℕ). due s (map_e angle (rows_at (current_at q.0) e.value)) in
-    let more : due s (map_e angle (rows_in (current_at m) lv (map pair (take (i + 1) xs)))) ≡ old ++ new c.args.store.now
-    = ap (λ (z : List (ℕ × ℕ)). due s (map_e angle z)) n.more
-    ∙ ap (due s) (map-append angle (rows_in (current_at m) lv (map pair (take i xs))) (rows_at (current_at m) e.value))
-    ∙ due_append s (map_e angle (rows_in (current_at m) lv (map pair (take i xs)))) (map_e angle (rows_at (current_at m) e.value)) in
+    let old = due s (map_e angle_of (rows_in (current_at m) lv (map pair (take i xs)))) in
+    let new : Meaning × List ℕ → List (ℕ × ℤ) = λ (q : Meaning × List ℕ). due s (map_e angle_of (rows_at (current_at q.0) e.value)) in
+    let more : due s (map_e angle_of (rows_in (current_at m) lv (map pair (take (i + 1) xs)))) ≡ old ++ new c.args.store.now
+    = ap (λ (z : List (ℕ × ℕ)). due s (map_e angle_of z)) n.more
+    ∙ ap (due s) (map-append angle_of (rows_in (current_at m) lv (map pair (take i xs))) (rows_at (current_at m) e.value))
+    ∙ due_append s (map_e angle_of (rows_in (current_at m) lv (map pair (take i xs)))) (map_e angle_of (rows_at (current_at m) e.value)) in
     let mid : List Pair = take (length c.loop-entry.out - c.loop-entry.n) (drop c.loop-entry.n c.loop-entry.out) in
     let b = both c.loop-entry.n c.list_block-n.result old (new c.args.store.now) c.args.out.now c.loop-entry.out c.list_block-n.new.out c.loop-entry.invariant.count c.loop-entry.invariant.listed
     (c.list_block-n.ensures.count ∙ ap (λ (q : Meaning × List ℕ). min (length mid) (length (new q))) c.loop-entry.invariant.kept)
@@ -96,9 +96,9 @@ loop-entry-preserved g t c =
 -- at the loop's end
 ended : (m : Meaning) (x s k i : ℕ) (p : Page) (ys : List Entry) → SoundAt (current_at m) x → block_at m x ≡ Some (view p) → (p.level ≡ 0 → ⊥) → k < length p.entries.items → ((j : ℕ) → j < k → (get_or (entries p) (suc j) (0, 0)).0 ≤ s) → ys ≡ p.entries.items
     → length (take (length ys - k) (drop k ys)) ≤ i
-    → due s (map_e angle (rows_in (current_at m) (level_of (block_at m x)) (map pair (take i (take (length ys - k) (drop k ys)))))) ≡ due s (map_e angle (rows_at (current_at m) x))
+    → due s (map_e angle_of (rows_in (current_at m) (level_of (block_at m x)) (map pair (take i (take (length ys - k) (drop k ys)))))) ≡ due s (map_e angle_of (rows_at (current_at m) x))
 ended m x s k i p ys so st up l past q all =
-    ap (λ (z : List Entry). due s (map_e angle (rows_in (current_at m) (level_of (block_at m x)) (map pair z)))) (take_all i (take (length ys - k) (drop k ys)) all)
+    ap (λ (z : List Entry). due s (map_e angle_of (rows_in (current_at m) (level_of (block_at m x)) (map pair z)))) (take_all i (take (length ys - k) (drop k ys)) all)
     ∙ due_page m x s k p (take (length ys - k) (drop k ys)) (here m x p so st) (omega (arith, up)) l past (rest ys p.entries.items k q)
 
 pub returns-clause-count : goal.returns-clause-count

@@ -3,7 +3,7 @@ use Rattle.device.specs.Meaning.{current_at}
 use Rattle.page.specs.Block.{block_at, level_of}
 use Rattle.page.specs.View.{pair}
 use Rattle.tree.specs.Node.{map_e}
-use Rattle.model.specs.TreeBlocks.{angle}
+use Rattle.table.specs.Rows.{angle_of}
 use Rattle.reads.specs.Sound.{rows_in}
 use Rattle.reads.specs.Lists.{due, written}
 use Rattle.reads.proofs.listing.+list_block.Given as goal
@@ -15,7 +15,7 @@ decreases-list_block g l = level_of (block_at l.store.now.0 l.block)
 abbrev pub invariant-loop-entry : goal.invariant-loop-entry
 invariant-loop-entry g l =
     let m = l.fn.store.0 in
-    let all = due l.speed (map_e angle (rows_in (current_at m) (level_of (block_at m l.block)) (map pair (take l.entry-index l.entry-items)))) in
+    let all = due l.speed (map_e angle_of (rows_in (current_at m) (level_of (block_at m l.block)) (map pair (take l.entry-index l.entry-items)))) in
     record {
       kept : l.store ≡ l.fn.store;
       count : l.n ≡ min (length l.fn.out) (length all);

@@ -3,7 +3,7 @@ use Rattle.std.proofs.lemmas.List.{take_all}
 use Rattle.table.specs.declared.pair.Pair.{Pair}
 use Rattle.page.specs.declared.page.Entry.{Entry}
 use Rattle.reads.specs.Lists.{due, written, pair_for}
-use Rattle.reads.proofs.Leaves.{rows, row, valid_at, At, at_item}
+use Rattle.reads.proofs.Leaves.{rows, row, valid_item, At, at_item}
 use Rattle.reads.proofs.Totals.{leaf_more}
 use Rattle.reads.proofs.Written.{length_written, written_one, written_full, due_append, due_one, due_not}
 use Rattle.reads.proofs.listing.list_leaf.Goals.{then-entry-speed+then-n-out, else-entry-speed, else-entry-speed-via-then-entry-speed+else-n-out, else-entry-speed-via-else-entry-speed}
@@ -50,11 +50,7 @@ same_pair p q a b = ap₂ (λ (x : ℕ) (y : ℤ). record { speed = x; angle = y
 
 pub row_of-requires : goal.row_of-requires
 row_of-requires c =
-    let xs = c.args.leaf.now.entries.items in
-    let i = c.loop-entry.entry-index in
-    let e = c.entry-item.result in
-    let h = at_item xs c.deref-entry-items.result.now i e c.deref-entry-items.ensures.0 c.loop-entry-test.true c.entry-item.is in
-    valid_at xs i e c.requires h.within h.is
+    valid_item c.args.leaf.now.entries.items c.deref-entry-items.result.now c.loop-entry.entry-index c.entry-item.result c.requires c.deref-entry-items.ensures.0 c.loop-entry-test.true c.entry-item.is
 
 pub loop-entry-preserved : goal.loop-entry-preserved
 loop-entry-preserved c =

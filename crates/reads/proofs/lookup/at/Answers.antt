@@ -1,11 +1,10 @@
 use Rattle.std.proofs.Common.{◌≡◌, ℕ, List, ℤ, Some, None, Option, sym, refl, ap, ◌∙◌, subst, ap₂}
 use Rattle.std.specs.Option.{option_map}
 use Rattle.device.specs.Meaning.{Meaning, current_at}
-use Rattle.table.specs.Rows.{pair_of}
+use Rattle.table.specs.Rows.{pair_of, angle_of}
 use Rattle.table.specs.Angles.{up_to, past, angle_by, angle_at}
 use Rattle.tree.specs.Node.{map_e}
 use Rattle.page.specs.View.{entries}
-use Rattle.model.specs.TreeBlocks.{angle}
 use Rattle.reads.specs.Sound.{rows_at}
 use Rattle.reads.specs.Descent.{Beside, rows_beside}
 use Rattle.reads.proofs.Good.{start}
@@ -36,10 +35,10 @@ returns-in-Some-Some-clause-answer g c =
     let x = c.args.root.block in
     let leaf = entries c.descend-place.result.leaf in
     let f = c.descend-place.ensures.found in
-    let up : up_to s (map_e angle leaf) ≡ Some (pair_of c.in-Some-Some.before) = sym c.around.ensures.before ∙ ap (option_map pair_of) c.in-Some-Some.is-0 in
-    let first : past s (map_e angle leaf) ≡ Some (pair_of c.in-Some-Some.after) = sym c.around.ensures.after ∙ ap (option_map pair_of) c.in-Some-Some.is-1 in
-    by_rows _ (map_e angle (rows_at (current_at m) x)) s (Some (pair_of c.in-Some-Some.before)) (Some (pair_of c.in-Some-Some.after)) c.angle_by.result c.angle_by.ensures (start m c.args.root.height x c.requires).rows
-    (up_by angle (current_at m) s x leaf _ _ f ∙ rw up refl) (past_by angle (current_at m) s x leaf _ _ f ∙ rw first refl)
+    let up : up_to s (map_e angle_of leaf) ≡ Some (pair_of c.in-Some-Some.below) = sym c.around-below.ensures.0 ∙ ap (option_map pair_of) c.in-Some-Some.is-0 in
+    let first : past s (map_e angle_of leaf) ≡ Some (pair_of c.in-Some-Some.above) = sym c.around-below.ensures.1 ∙ ap (option_map pair_of) c.in-Some-Some.is-1 in
+    by_rows _ (map_e angle_of (rows_at (current_at m) x)) s (Some (pair_of c.in-Some-Some.below)) (Some (pair_of c.in-Some-Some.above)) c.angle_by.result c.angle_by.ensures (start m c.args.root.height x c.requires).rows
+    (up_by angle_of (current_at m) s x leaf _ _ f ∙ rw up refl) (past_by angle_of (current_at m) s x leaf _ _ f ∙ rw first refl)
 
 pub returns-in_default-None-clause-answer : goal.returns-in_default-None-clause-answer
 returns-in_default-None-clause-answer g c =
@@ -49,11 +48,11 @@ returns-in_default-None-clause-answer g c =
     let leaf = entries c.descend-place.result.leaf in
     let right = c.descend-place.result.right in
     let f = c.descend-place.ensures.found in
-    let first : past s (map_e angle leaf) ≡ None = sym c.around.ensures.after ∙ ap (option_map pair_of) c.in_default-None.is-1 in
-    let near : past s (map_e angle (rows_beside (current_at m) right)) ≡ option_map pair_of c.nearest.result.1
-    = sym (c.nearest.ensures.after ∙ ap (λ (q : Meaning × List ℕ). past s (map_e angle (rows_beside (current_at q.0) right))) c.descend-place.ensures.kept) in
+    let first : past s (map_e angle_of leaf) ≡ None = sym c.around-below.ensures.1 ∙ ap (option_map pair_of) c.in_default-None.is-1 in
+    let near : past s (map_e angle_of (rows_beside (current_at m) right)) ≡ option_map pair_of c.nearest.result.above
+    = sym (c.nearest.ensures.nearest.1 ∙ ap (λ (q : Meaning × List ℕ). past s (map_e angle_of (rows_beside (current_at q.0) right))) c.descend-place.ensures.kept) in
     by_rows _ _ s _ _ c.angle_by-in_default-None.result c.angle_by-in_default-None.ensures (start m c.args.root.height x c.requires).rows
-    (up_alone angle (current_at m) s x leaf _ _ f first ∙ sym c.around.ensures.before) (past_by angle (current_at m) s x leaf _ _ f ∙ rw first near)
+    (up_alone angle_of (current_at m) s x leaf _ _ f first ∙ sym c.around-below.ensures.0) (past_by angle_of (current_at m) s x leaf _ _ f ∙ rw first near)
 
 pub returns-in-None-default-clause-answer : goal.returns-in-None-default-clause-answer
 returns-in-None-default-clause-answer g c =
@@ -63,8 +62,8 @@ returns-in-None-default-clause-answer g c =
     let leaf = entries c.descend-place.result.leaf in
     let left = c.descend-place.result.left in
     let f = c.descend-place.ensures.found in
-    let up : up_to s (map_e angle leaf) ≡ None = sym c.around.ensures.before ∙ ap (option_map pair_of) c.in-None-default.is-0 in
-    let near : up_to s (map_e angle (rows_beside (current_at m) left)) ≡ option_map pair_of c.nearest-in-None-default.result.0
-    = sym (c.nearest-in-None-default.ensures.before ∙ ap (λ (q : Meaning × List ℕ). up_to s (map_e angle (rows_beside (current_at q.0) left))) c.descend-place.ensures.kept) in
+    let up : up_to s (map_e angle_of leaf) ≡ None = sym c.around-below.ensures.0 ∙ ap (option_map pair_of) c.in-None-default.is-0 in
+    let near : up_to s (map_e angle_of (rows_beside (current_at m) left)) ≡ option_map pair_of c.nearest-in-None-default.result.below
+    = sym (c.nearest-in-None-default.ensures.nearest.0 ∙ ap (λ (q : Meaning × List ℕ). up_to s (map_e angle_of (rows_beside (current_at q.0) left))) c.descend-place.ensures.kept) in
     by_rows _ _ s _ _ c.angle_by-in-None-default.result c.angle_by-in-None-default.ensures (start m c.args.root.height x c.requires).rows
-    (up_by angle (current_at m) s x leaf _ _ f ∙ rw up near) (past_alone angle (current_at m) s x leaf _ _ f up ∙ sym c.around.ensures.after)
+    (up_by angle_of (current_at m) s x leaf _ _ f ∙ rw up near) (past_alone angle_of (current_at m) s x leaf _ _ f up ∙ sym c.around-below.ensures.1)

@@ -1,6 +1,6 @@
 use Rattle.std.proofs.Common.{sym, ap, ◌∙◌}
 use Rattle.page.specs.View.{entries}
-use Rattle.model.specs.TreeBlocks.{angle}
+use Rattle.table.specs.Rows.{angle_of}
 use Rattle.tree.specs.Reads.{look}
 use Rattle.device.specs.Meaning.{current_at}
 use Rattle.reads.specs.Sound.{rows_at}
@@ -19,4 +19,4 @@ returns-clause-answer g c =
     let leaf = entries c.descend-place.result.leaf in
     let x = start m c.args.root.height c.args.root.block c.requires in
     let f = c.descend-place.ensures.found in
-    c.look_in.ensures ∙ look_map angle s leaf ∙ ap (option_map angle) (sym (look_found (current_at m) c.args.root.block s leaf _ _ f)) ∙ sym (look_map angle s (rows_at (current_at m) c.args.root.block)) ∙ ap (look s) (sym x.rows)
+    c.look_in.ensures ∙ look_map angle_of s leaf ∙ ap (option_map angle_of) (sym (look_found (current_at m) c.args.root.block s leaf _ _ f)) ∙ sym (look_map angle_of s (rows_at (current_at m) c.args.root.block)) ∙ ap (look s) (sym x.rows)

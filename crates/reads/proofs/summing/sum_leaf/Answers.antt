@@ -1,15 +1,13 @@
 use Rattle.std.proofs.Common.{ℕ, length, take, ℤ, sym, ap, ◌∙◌, ap₂, arith}
 use Rattle.std.proofs.lemmas.List.{take_all}
 use Rattle.tree.specs.Reads.{total}
-use Rattle.reads.proofs.Leaves.{rows, row, valid_at, at_item}
+use Rattle.reads.proofs.Leaves.{rows, row, valid_item, at_item}
 use Rattle.reads.proofs.Totals.{total_one, leaf_more}
 use Rattle.reads.proofs.summing.sum_leaf.Goals as goal
 
 pub row_of-requires : goal.row_of-requires
 row_of-requires g c =
-    let xs = c.args.leaf.now.entries.items in
-    let h = at_item xs c.deref-entry-items.result.now c.loop-entry.entry-index c.entry-item.result c.deref-entry-items.ensures.0 c.loop-entry-test.true c.entry-item.is in
-    valid_at xs c.loop-entry.entry-index c.entry-item.result c.requires h.within h.is
+    valid_item c.args.leaf.now.entries.items c.deref-entry-items.result.now c.loop-entry.entry-index c.entry-item.result c.requires c.deref-entry-items.ensures.0 c.loop-entry-test.true c.entry-item.is
 
 pub loop-entry-preserved : goal.loop-entry-preserved
 loop-entry-preserved g c =

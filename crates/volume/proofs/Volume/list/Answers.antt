@@ -1,14 +1,14 @@
-use Rattle.std.proofs.Common.{rules, ◌≡◌, min, length, take, ℕ, Ok, sym, ap, ◌∙◌, subst}
+use Rattle.std.proofs.Common.{refl, rules, ◌≡◌, min, length, take, ℕ, sym, ap, ◌∙◌}
 use Rattle.device.specs.Meaning.{Meaning}
 use Rattle.counts.specs.Moves.{State}
 use Rattle.page.specs.Slot.{Root}
 use Rattle.model.specs.Plain.Ask.{rows}
-use Rattle.model.specs.Plain.{Map, early, from, has, place}
+use Rattle.model.specs.Plain.{Map, from, place}
 use Rattle.model.specs.World.{Tables}
-use Rattle.volume.specs.Kept.{tables, Called, rows_of_clone}
+use Rattle.volume.specs.Kept.{tables, rows_of_clone}
 use Rattle.volume.proofs.Asking.{denied_early}
 use Rattle.volume.proofs.Clones.{good}
-use Rattle.volume.proofs.Reading.{clone_rows, rows_called}
+use Rattle.volume.proofs.Reading.{clone_rows, read_called}
 use Rattle.volume.proofs.Volume.list.Goals as goal
 
 pub returns-in_err-root-clause-call : goal.returns-in_err-root-clause-call
@@ -28,14 +28,9 @@ pub returns-clause-call : goal.returns-clause-call
 returns-clause-call g c =
     let i = c.self.inside in
     let t : Tables = tables i.working i.committed i.generation in
-    let r : Root = (c.in_ok-root.root.height, c.in_ok-root.root.block) in
-    let v : Tables × Meaning = (t, i.store.0) in
     let k : ℕ = length c.args.out.now in
-    let f : Map → ℕ = λ rs. min k (length (from c.args.speed rs)) in
-    let same : (t, c.list.new.store.0) ≡ v = ap (λ (q : State). (t, q.0)) c.list.ensures.kept in
-    let d = rows_called v (t, c.list.new.store.0) c.args.n r (ap (λ (v : Tables × Meaning). place v.0.working c.args.n) c.self.view_is ∙ c.in_ok-root.ensures.3) same
-    f c.list.result c.list.ensures.count c.args.speed k (ap (λ (v : Tables × Meaning). early (has v.0.working) (rows c.args.n c.args.speed k)) c.self.view_is ∙ c.in_ok-root.ensures.0) in
-    subst (λ (v : Tables × Meaning). Called (rows c.args.n c.args.speed k) (f (rows_of_clone v c.args.n)) v (Ok c.list.result) (t, c.list.new.store.0)) c.self.view_is d
+    read_called c.args.self.now (t, i.store.0) (t, c.list.new.store.0) c.args.n (c.in_ok-root.root.height, c.in_ok-root.root.block) c.self.view_is (ap (λ (q : State). (t, q.0)) c.list.ensures.kept) c.in_ok-root.ensures.3
+    (λ (rs : Map). min k (length (from c.args.speed rs))) c.list.result c.list.ensures.count (rows c.args.n c.args.speed k) c.in_ok-root.ensures.0 refl (refl, refl)
 
 pub returns-clause-listed : goal.returns-clause-listed
 returns-clause-listed g c =

@@ -8,13 +8,15 @@ use Rattle.edit.specs.Edited.{Edited}
 use Rattle.model.specs.Plain.Ask.{put}
 use Rattle.model.specs.Plain.{early, has, place}
 use Rattle.model.specs.Model.{late, needs}
-use Rattle.model.specs.TreeBlocks.{Change.puts, changed_on, tree_at, root_of as top_of, raw, Good}
+use Rattle.table.specs.Rows.{payload_of}
+use Rattle.model.specs.TreeBlocks.{Change.puts, changed_on, tree_at, root_of as top_of, Good}
 use Rattle.model.specs.World.{Tables, placed, shape}
 use Rattle.volume.specs.Kept.{tables, Kept, Called}
 use Rattle.volume.proofs.Asking.{denied_early, denied_late, accepted}
 use Rattle.volume.proofs.Calls.{tables_set}
 use Rattle.volume.proofs.Clones.{good}
-use Rattle.volume.proofs.Changing.{five, high, raw_payload, needs_is, editable, There, put_there}
+use Rattle.model.proofs.Grants.{good_low}
+use Rattle.volume.proofs.Changing.{high, needs_is, editable, There, put_there}
 use Rattle.volume.proofs.Volume.put.Goals as goal
 
 pub returns-in_err-root : goal.returns-in_err-root
@@ -29,7 +31,7 @@ reserve-requires-clause-few g c =
     let t : Tables = tables i.working i.committed i.generation in
     let r : Root = (c.in_ok-root.root.height, c.in_ok-root.root.block) in
     let at : place t.working c.args.n ≡ Some r = ap (λ (v : Tables × Meaning). place v.0.working c.args.n) c.self.view_is ∙ c.in_ok-root.ensures.2 in
-    omega (arith, five (blocks_of i.store.0) (current_at i.store.0) r (good t i.store c.self.invariant c.args.n r at c.in_ok-root.ensures.1))
+    omega (arith, good_low (blocks_of i.store.0) (current_at i.store.0) r (good t i.store c.self.invariant c.args.n r at c.in_ok-root.ensures.1))
 
 pub returns-in_err-grant : goal.returns-in_err-grant
 returns-in_err-grant g c =
@@ -55,11 +57,11 @@ put_tree-requires-clause-editable g c =
     editable t i.store.0 i.store.1 c.self.invariant c.args.n r at c.in_ok-root.ensures.1
 
 -- the row, as the call names it
-there : (t : Tables) (q q' : State) (K : Kept t q) (n : ℕ) (r r' : Root) (s v speed : ℕ) (angle : ℤ) → n < 24 → place t.working n ≡ Some r → s ≡ speed → v ≡ raw angle
+there : (t : Tables) (q q' : State) (K : Kept t q) (n : ℕ) (r r' : Root) (s v speed : ℕ) (angle : ℤ) → n < 24 → place t.working n ≡ Some r → s ≡ speed → v ≡ payload_of angle
     → Edited (puts s v) (tree_at (current_at q.0) r) q.0 q.1 q'.0 q'.1 → r' ≡ top_of (changed_on ℕ (puts s v) (free_blocks q.1) (tree_at (current_at q.0) r)) → Good (blocks_of q'.0) (current_at q'.0) r'
-    → There t q.0 n (puts speed (raw angle)) r' q'.0 q'.1
+    → There t q.0 n (puts speed (payload_of angle)) r' q'.0 q'.1
 there t q q' K n r r' s v speed angle h at es ev E e G =
-    subst (λ (x : ℕ). There t q.0 n (puts x (raw angle)) r' q'.0 q'.1) es
+    subst (λ (x : ℕ). There t q.0 n (puts x (payload_of angle)) r' q'.0 q'.1) es
     (subst (λ (y : ℕ). There t q.0 n (puts s y) r' q'.0 q'.1) ev (put_there t q.0 q.1 K n h r at s v q'.0 q'.1 r' E e G))
 
 pub invariant_of-self : goal.invariant_of-self
@@ -70,7 +72,7 @@ invariant_of-self g c =
     let at : place t.working c.args.n ≡ Some r = ap (λ (v : Tables × Meaning). place v.0.working c.args.n) c.self.view_is ∙ c.in_ok-root.ensures.2 in
     let e = c.put_tree.ensures in
     let T = there t i.store c.put_tree.new.store c.self.invariant c.args.n r (c.put_tree.result.height, c.put_tree.result.block) _ _ c.args.speed c.args.angle c.in_ok-root.ensures.1 at c.in_ok-root.ensures.3
-    (c.payload.ensures ∙ raw_payload c.in_ok-root.row.angle ∙ ap raw (c.in_ok-root.ensures.4 ∙ to_z-of_z w32 c.args.angle c.ranges.angle)) e.edited e.root e.good in
+    (c.payload.ensures ∙ ap payload_of (c.in_ok-root.ensures.4 ∙ to_z-of_z w32 c.args.angle c.ranges.angle)) e.edited e.root e.good in
     subst (λ t. Kept t c.put_tree.new.store) (sym (tables_set i.working i.committed i.generation c.args.n (Some c.put_tree.result))) T.kept
 
 pub returns : goal.returns
@@ -83,7 +85,7 @@ returns g c =
     let at : place t.working c.args.n ≡ Some r = ap (λ (v : Tables × Meaning). place v.0.working c.args.n) c.self.view_is ∙ c.in_ok-root.ensures.2 in
     let e = c.put_tree.ensures in
     let T = there t i.store q c.self.invariant c.args.n r r' _ _ c.args.speed c.args.angle c.in_ok-root.ensures.1 at c.in_ok-root.ensures.3
-    (c.payload.ensures ∙ raw_payload c.in_ok-root.row.angle ∙ ap raw (c.in_ok-root.ensures.4 ∙ to_z-of_z w32 c.args.angle c.ranges.angle)) e.edited e.root e.good in
+    (c.payload.ensures ∙ ap payload_of (c.in_ok-root.ensures.4 ∙ to_z-of_z w32 c.args.angle c.ranges.angle)) e.edited e.root e.good in
     let l : late (shape t i.store.0) (put c.args.n c.args.speed c.args.angle) ≡ None
     = ap (λ (h : ℕ). needs (shape t i.store.0) c.args.n (2 * h + 1)) (high t i.store.0 i.store.1 c.self.invariant c.args.n r at)
     ∙ needs_is t i.store.0 i.store.1 c.self.invariant c.args.n (2 * r.0 + 1) ∙ c.in_ok-grant.ensures.0 in

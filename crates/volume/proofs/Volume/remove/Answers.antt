@@ -17,7 +17,8 @@ use Rattle.volume.proofs.Calls.{tables_set}
 use Rattle.volume.proofs.Clones.{good}
 use Rattle.volume.proofs.Reading.{clone_rows}
 use Rattle.volume.proofs.Removing.{removed_none, removed_late, removed_row}
-use Rattle.volume.proofs.Changing.{five, high, needs_is, editable, There, take_there}
+use Rattle.model.proofs.Grants.{good_low}
+use Rattle.volume.proofs.Changing.{high, needs_is, editable, There, take_there}
 use Rattle.volume.proofs.Volume.remove.Goals as goal
 
 pub returns-in_err-root : goal.returns-in_err-root
@@ -49,7 +50,7 @@ reserve-requires-clause-few g c =
     let t : Tables = tables i.working i.committed i.generation in
     let r : Root = (c.in_ok-root.root.height, c.in_ok-root.root.block) in
     let at : place t.working c.args.n ≡ Some r = ap (λ (v : Tables × Meaning). place v.0.working c.args.n) c.self.view_is ∙ c.in_ok-root.ensures.3 in
-    omega (arith, five (blocks_of i.store.0) (current_at i.store.0) r (good t i.store c.self.invariant c.args.n r at c.in_ok-root.ensures.1))
+    omega (arith, good_low (blocks_of i.store.0) (current_at i.store.0) r (good t i.store c.self.invariant c.args.n r at c.in_ok-root.ensures.1))
 
 pub returns-in_err-grant : goal.returns-in_err-grant
 returns-in_err-grant g c =

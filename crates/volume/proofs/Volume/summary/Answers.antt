@@ -1,15 +1,15 @@
-use Rattle.std.proofs.Common.{rules, ◌≡◌, Ok, ap, ◌∙◌, subst}
+use Rattle.std.proofs.Common.{refl, rules, ap, ◌∙◌}
 use Rattle.device.specs.Meaning.{Meaning}
 use Rattle.counts.specs.Moves.{State}
 use Rattle.page.specs.Slot.{Root}
 use Rattle.tree.specs.Reads.{total}
 use Rattle.model.specs.Plain.Ask.{summary}
-use Rattle.model.specs.Plain.{early, has, place}
+use Rattle.model.specs.Plain.{place}
 use Rattle.model.specs.World.{Tables}
-use Rattle.volume.specs.Kept.{tables, Called, rows_of_clone}
+use Rattle.volume.specs.Kept.{tables, rows_of_clone}
 use Rattle.volume.proofs.Asking.{denied_early}
 use Rattle.volume.proofs.Clones.{good}
-use Rattle.volume.proofs.Reading.{summary_called}
+use Rattle.volume.proofs.Reading.{read_called}
 use Rattle.volume.proofs.Volume.summary.Goals as goal
 
 pub returns-in_err-root : goal.returns-in_err-root
@@ -28,10 +28,5 @@ pub returns : goal.returns
 returns g c k =
     let i = c.self.inside in
     let t : Tables = tables i.working i.committed i.generation in
-    let r : Root = (c.in_ok-root.root.height, c.in_ok-root.root.block) in
-    let v : Tables × Meaning = (t, i.store.0) in
-    let f = total g.S.Summary.none g.S.Summary.joined g.S.Summary.value_of in
-    let same : (t, c.summary.new.store.0) ≡ v = ap (λ (q : State). (t, q.0)) c.summary.ensures.kept in
-    let d = summary_called v (t, c.summary.new.store.0) c.args.n r (ap (λ (v : Tables × Meaning). place v.0.working c.args.n) c.self.view_is ∙ c.in_ok-root.ensures.2) same
-    f c.summary.result c.summary.ensures.answer k (ap (λ (v : Tables × Meaning). early (has v.0.working) (summary k c.args.n)) c.self.view_is ∙ c.in_ok-root.ensures.0) in
-    subst (λ (v : Tables × Meaning). Called (summary k c.args.n) (f (rows_of_clone v c.args.n)) v (Ok c.summary.result) (t, c.summary.new.store.0)) c.self.view_is d
+    read_called c.args.self.now (t, i.store.0) (t, c.summary.new.store.0) c.args.n (c.in_ok-root.root.height, c.in_ok-root.root.block) c.self.view_is (ap (λ (q : State). (t, q.0)) c.summary.ensures.kept) c.in_ok-root.ensures.2
+    (total g.S.Summary.none g.S.Summary.joined g.S.Summary.value_of) c.summary.result c.summary.ensures.answer (summary k c.args.n) c.in_ok-root.ensures.0 refl (refl, refl)

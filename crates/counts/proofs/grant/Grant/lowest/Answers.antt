@@ -1,40 +1,40 @@
-use Rattle.std.proofs.Common.{ℕ, ◌+◌, ◌-◌, Bool, cond, List, [], ◌∷◌, ◌++◌, length, get_or, vec_items, sym, ap, ◌∙◌, arith, rules}
-use Rattle.std.proofs.lemmas.List.{length_push, append-nil}
-use Rattle.std.proofs.lemmas.Bool.{le-ltb, lt-ltb}
-use Rattle.std.proofs.lemmas.Iterator.{YieldsList-from_slice}
-use Rattle.std.proofs.lemmas.Iterator.Adapters.{YieldsList-from_skip}
-use Rattle.std.proofs.lemmas.Iterator.Consumers.{YieldsList-from_enumerate, YieldsList-turn}
-use Rattle.counts.specs.Counts.{spare}
-use Rattle.counts.proofs.Granting.{next_block, at_block}
+use Rattle.std.proofs.Common.{◌≡◌, ℕ, ◌+◌, ◌-◌, ◌<◌, List, ◌++◌, Option, MatchOption, length, drop, vec_items, sym, refl, ap, ◌∙◌, subst, arith, rules, tests}
+use Rattle.std.specs.List.{AllWithin, HoldsAt}
+use Rattle.std.proofs.lemmas.Bool.{lt-leb}
+use Rattle.std.proofs.lemmas.List.{length-drop}
+use Rattle.std.proofs.lemmas.Slice.{between_to_end}
+use Rattle.std.proofs.lemmas.Iterator.{IsFirst-from_position, YieldsList-from_slice}
+use Rattle.std.specs.Slice.Iter.{iter_rest}
+use Rattle.counts.specs.Counts.{spare, free_blocks}
+use Rattle.counts.proofs.Granting.{found_next, found_none}
+use Rattle.counts.proofs.grant.Grant.lowest.Goals.{After-branch-block}
 use Rattle.counts.proofs.grant.Grant.lowest.Goals as goal
 
-pub loop-block-preserved-then-count-eq0 : goal.loop-block-preserved-then-count-eq0
-loop-block-preserved-then-count-eq0 c =
-    let cs : List ℕ = vec_items c.args.counts.now.of in
-    let k = length c.loop-block.yielded in
-    let xs : List ℕ = c.loop-block.found.items in
-    let t = YieldsList-turn (YieldsList-from_skip 2 (YieldsList-from_enumerate (YieldsList-from_slice cs cc) (cc)) (cc)) c.loop-block.yielded _ c.loop-block.yielded_by _ _ (c.in-Some.block, c.in-Some.count) c.in-Some.is c.next.ensures.steps in
-    let h = at_block cs k c.in-Some.block c.in-Some.count.now t in
-    record {
-      can = search rules;
-      ends = search rules;
-      few = omega (arith, c.push.ensures.len, c.loop-block.invariant.few, c.if-len-n.false);
-      these = next_block cs xs c.push.new.self.items k h.0 c.loop-block.invariant.these
-          (c.push.ensures.items ∙ ap (λ (b : ℕ). xs ++ b ∷ []) h.1 ∙ ap (λ (t : Bool). xs ++ cond t [] ((k + 2) ∷ [])) (sym (le-ltb 0 (get_or cs (k + 2) 0) (omega (arith, h.2, c.if-count-eq0.true)))))
-          ∙ ap (λ (m : ℕ). c.push.new.self.items ++ spare (length cs - (m + 2)) (m + 2) cs) (sym (length_push c.loop-block.yielded (c.in-Some.block, c.in-Some.count)));
-    }
+abbrev First : List ℕ → Option ℕ → Type 0
+First xs r = MatchOption r (AllWithin (λ c. 0 < c) xs 0 (length xs)) (λ i. (i < length xs) × HoldsAt (λ c. c ≡ 0) xs i × AllWithin (λ c. 0 < c) xs 0 i)
 
-pub loop-block-preserved : goal.loop-block-preserved
-loop-block-preserved c =
+first : (c : After-branch-block) → First (drop c.loop.next (vec_items c.args.counts.now.of)) c.position.result
+first c =
     let cs : List ℕ = vec_items c.args.counts.now.of in
-    let k = length c.loop-block.yielded in
-    let xs : List ℕ = c.loop-block.found.items in
-    let t = YieldsList-turn (YieldsList-from_skip 2 (YieldsList-from_enumerate (YieldsList-from_slice cs cc) (cc)) (cc)) c.loop-block.yielded _ c.loop-block.yielded_by _ _ (c.in-Some.block, c.in-Some.count) c.in-Some.is c.next.ensures.steps in
-    let h = at_block cs k c.in-Some.block c.in-Some.count.now t in
+    let later : iter_rest c.iter.result ≡ drop c.loop.next cs = c.iter.ensures.rest ∙ between_to_end c.deref.result.now c.loop.next _ (omega (arith, c.loop.invariant.within)) ∙ ap (drop c.loop.next) c.deref.ensures.value in
+    IsFirst-from_position _ _ _ (λ c. c ≡ 0) (λ c. 0 < c) c.position.ensures.ran (YieldsList-from_slice (drop c.loop.next cs) later)
+    (λ x q k. search (rules, tests)) (λ x q k. search (rules, tests))
+
+pub returns-in_err-block : goal.returns-in_err-block
+returns-in_err-block c =
+    let cs : List ℕ = vec_items c.args.counts.now.of in
+    let xs : List ℕ = c.loop.blocks.items in
+    let f : free_blocks cs ≡ xs = found_none cs xs c.loop.next c.loop.invariant.within c.loop.invariant.these (subst (First (drop c.loop.next cs)) c.in_err-block.was (first (goal.at.returns-in_err-block c).After-branch-block)) in
+    c.from_residual.ensures ∙ sym (rw (lt-leb c.args.n (length (free_blocks cs)) (omega (arith, ap length f, c.loop.invariant.count))) refl)
+
+pub loop-preserved : goal.loop-preserved
+loop-preserved c =
+    let cs : List ℕ = vec_items c.args.counts.now.of in
+    let xs : List ℕ = c.loop.blocks.items in
+    let j : ℕ = c.in_ok-block.field-0 in
+    let h = subst (First (drop c.loop.next cs)) c.in_ok-block.was (first (goal.at.loop-preserved c).After-branch-block) in
     record {
-      can = search rules;
-      ends = search rules;
-      few = c.loop-block.invariant.few;
-      these = next_block cs xs xs k h.0 c.loop-block.invariant.these (sym (append-nil xs) ∙ ap (λ (t : Bool). xs ++ cond t [] ((k + 2) ∷ [])) (sym (lt-ltb 0 (get_or cs (k + 2) 0) (omega (arith, h.2, c.if-count-eq0.false)))))
-          ∙ ap (λ (m : ℕ). xs ++ spare (length cs - (m + 2)) (m + 2) cs) (sym (length_push c.loop-block.yielded (c.in-Some.block, c.in-Some.count)));
+      within = omega (arith, h.0, length-drop c.loop.next cs);
+      count = omega (arith, c.push.ensures.len, c.loop.invariant.count);
+      these = found_next cs xs c.loop.next c.loop.invariant.within c.loop.invariant.these j h ∙ ap (λ ys. ys ++ spare (length cs - (c.loop.next + j + 1)) (c.loop.next + j + 1) cs) (sym c.push.ensures.items);
     }
