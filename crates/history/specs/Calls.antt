@@ -33,7 +33,7 @@ call_of k Reopen = plain.Call.reopen
 call_of k Mount = plain.Call.mount
 
 -- how many pairs of the slice the answer shows
-abbrev pub shown : {S : Type 0} → Result (Answer S) Refusal → ℕ
+abbrev pub shown : {S E : Type 0} → Result (Answer S) E → ℕ
 shown (Ok Done) = 0
 shown (Ok (Angle o)) = 0
 shown (Ok (Listed k)) = k

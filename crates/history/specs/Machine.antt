@@ -4,18 +4,19 @@ use Rattle.device.specs.Meaning.{Meaning, blocks_of}
 use Rattle.device.specs.Cuts.{Op}
 use Rattle.table.specs.declared.pair.Pair.{Pair}
 use Rattle.model.specs.Plain.{Map, Call, Call.mount, Answer}
-use Rattle.model.specs.World.{Mode, Mode.mounted, Mode.down, Step, sizes}
+use Rattle.model.specs.World.{Mode, Mode.mounted, Mode.sealed, Mode.down, Step, sizes}
 use Rattle.model.specs.Onward.{Turn}
 use Rattle.history.specs.declared.call.Answer.{Answer as Given}
 use Rattle.history.specs.declared.call.Denied.{Denied}
 use Rattle.history.specs.declared.call.Denied.TheVariants.{OutOfTurn, NoMemory, Refused}
 use Rattle.history.specs.declared.machine.Machine.{Machine}
-use Rattle.history.specs.declared.machine.Machine.TheVariants.{Mounted, Down}
+use Rattle.history.specs.declared.machine.Machine.TheVariants.{Mounted, Sealed, Down}
 use Rattle.history.specs.Calls.{answer_of}
 
 -- a machine's mode and what its device means; f is what a device means
 abbrev pub state_of : {D : Type 0} → (D → Meaning) → Machine D → Mode × Meaning
 state_of f (Mounted v) = (mounted v.0, v.1)
+state_of f (Sealed v) = (sealed v.0, v.1)
 state_of f (Down d) = (down, f d)
 
 -- a step of some device calls

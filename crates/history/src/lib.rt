@@ -3,6 +3,7 @@
 
 mod call;
 mod machine;
+mod printing;
 
 pub use call::{Answer, Ask, Call, Denied};
-pub use machine::Machine;
+pub use machine::{Machine, perform};

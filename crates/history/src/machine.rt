@@ -2,8 +2,9 @@
 ghost use Rattle.std.specs.Prelude.{◌≡◌, ℕ, List, length, drop};
 ghost use Rattle.table.specs.declared.pair.Pair.{Pair};
 ghost use Rattle.model.specs.Plain.{Call.ask};
-ghost use Rattle.model.specs.World.{Mode.mounted, Mode.down};
+ghost use Rattle.model.specs.World.{Mode.mounted, Mode.sealed, Mode.down};
 ghost use Rattle.history.specs.Calls.{ask_of, call_of, answer_of, shown, summed};
+ghost use Rattle.history.specs.Law.{Lawful};
 ghost use Rattle.history.specs.Machine.{Stepped, Outcome, state_of};
 
 use super::call::{Answer, Ask, Call, Denied};
@@ -11,10 +12,15 @@ use device::Device;
 use model::Refusal;
 use std::alloc::Global;
 use table::{Pair, Summary};
-use volume::Volume;
+use volume::{Sealed, Volume};
 
+#[derive(Drop)]
 pub enum Machine<D: Device> {
+    // The volume takes every call but finish and reopen.
     Mounted(Volume<D>),
+    // The volume waits for finish or reopen.
+    Sealed(Sealed<D>),
+    // The device may hold a volume: it takes a mount.
     Down(D),
 }
 
@@ -56,6 +62,47 @@ fn ask<D: Device, S: Summary>(
     }
 }
 
+// A call of a mounted volume.
+fn while_mounted<D: Device, S: Summary>(
+    volume: Volume<D>,
+    call: Call,
+    out: &mut [Pair],
+) -> (Machine<D>, Result<Answer<S>, Denied>)
+    ensures step { Outcome (Stepped S (summed S.none S.joined S.value_of)) out.new (mounted volume.0, volume.1) (call_of (length out.old) call) result.1 (state_of D.Device.meaning result.0) }
+    ensures rest { drop (shown result.1) out.new ≡ drop (shown result.1) out.old }
+{
+    let mut volume = volume;
+    match call {
+        Call::Ask(question) => {
+            let answer = ask(&mut volume, question, out);
+            (Machine::Mounted(volume), answer.map_err(Denied::Refused))
+        },
+        Call::Seal => match volume.seal() {
+            Ok(sealed) => (Machine::Sealed(sealed), Ok(Answer::Done)),
+            Err((volume, refusal)) => (Machine::Mounted(volume), Err(Denied::Refused(refusal))),
+        },
+        Call::Mount => match volume.remount() {
+            Ok(volume) => (Machine::Mounted(volume), Ok(Answer::Done)),
+            Err((device, refusal)) => (Machine::Down(device), Err(Denied::Refused(refusal))),
+        },
+        Call::Finish | Call::Reopen => (Machine::Mounted(volume), Err(Denied::OutOfTurn)),
+    }
+}
+
+// A call of a sealed volume.
+fn while_sealed<D: Device, S: Summary>(
+    sealed: Sealed<D>,
+    call: Call,
+) -> (Machine<D>, Result<Answer<S>, Denied>)
+    ensures { (k : ℕ) (out : List Pair) → Outcome (Stepped S (summed S.none S.joined S.value_of)) out (sealed sealed.0, sealed.1) (call_of k call) result.1 (state_of D.Device.meaning result.0) }
+{
+    match call {
+        Call::Finish => (Machine::Mounted(sealed.finish()), Ok(Answer::Done)),
+        Call::Reopen => (Machine::Mounted(sealed.reopen()), Ok(Answer::Done)),
+        Call::Ask(_) | Call::Seal | Call::Mount => (Machine::Sealed(sealed), Err(Denied::OutOfTurn)),
+    }
+}
+
 // A call of a machine whose power was cut.
 fn while_down<D: Device, S: Summary>(
     heap: Global,
@@ -73,5 +120,57 @@ fn while_down<D: Device, S: Summary>(
         Call::Ask(_) | Call::Seal | Call::Finish | Call::Reopen => {
             (Machine::Down(device), Err(Denied::OutOfTurn))
         },
+    }
+}
+
+// What comes of a call: a step of the volume, or nothing.
+fn step<D: Device, S: Summary>(
+    machine: Machine<D>,
+    heap: Global,
+    call: Call,
+    out: &mut [Pair],
+) -> (Machine<D>, Result<Answer<S>, Denied>)
+    ensures step { Outcome (Stepped S (summed S.none S.joined S.value_of)) out.new (state_of D.Device.meaning machine) (call_of (length out.old) call) result.1 (state_of D.Device.meaning result.0) }
+    ensures rest { drop (shown result.1) out.new ≡ drop (shown result.1) out.old }
+{
+    match machine {
+        Machine::Mounted(volume) => while_mounted(volume, call, out),
+        Machine::Sealed(sealed) => while_sealed(sealed, call),
+        Machine::Down(device) => while_down(heap, device, call),
+    }
+}
+
+// Makes one call of a history: it is lawful, or it changes nothing. The pairs of the slice that a list does not fill keep their values.
+pub fn perform<D: Device, S: Summary>(
+    machine: Machine<D>,
+    heap: Global,
+    call: Call,
+    out: &mut [Pair],
+) -> (Machine<D>, Result<Answer<S>, Denied>)
+    ensures law { Outcome (Lawful S (summed S.none S.joined S.value_of)) out.new (state_of D.Device.meaning machine) (call_of (length out.old) call) result.1 (state_of D.Device.meaning result.0) }
+    ensures rest { drop (shown result.1) out.new ≡ drop (shown result.1) out.old }
+{
+    step(machine, heap, call, out)
+}
+
+impl<D: Device> Machine<D> {
+    // Makes an empty volume on a device, or gives the device back with the reason why it cannot.
+    pub fn format(heap: Global, device: D) -> Result<Machine<D>, (D, Refusal)>
+        ensures { MatchResult result
+            (λ v. (state_of D.Device.meaning v ≡ (mounted bare, replay (formatting (D.Device.meaning device).width) (D.Device.meaning device))) × Formatted (state_of D.Device.meaning v).1)
+            (λ e. (D.Device.meaning e.0 ≡ D.Device.meaning device) × Hindered (D.Device.meaning device) e.1) }
+    {
+        Ok(Machine::Mounted(Volume::format(heap, device)?))
+    }
+
+    // Gives the device back as it is.
+    pub fn into_device(self) -> D
+        ensures { D.Device.meaning result ≡ (state_of D.Device.meaning self).1 }
+    {
+        match self {
+            Machine::Mounted(volume) => volume.into_device(),
+            Machine::Sealed(sealed) => sealed.reopen().into_device(),
+            Machine::Down(device) => device,
+        }
     }
 }
