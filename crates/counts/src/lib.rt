@@ -1,7 +1,7 @@
 // References to tree blocks, counted. docs/counts.md explains the equation and the moves that keep it.
 #![tactic(auto)]
 
-ghost use Rattle.std.specs.Prelude.{◌≡◌, ℕ, ◌+◌, ◌-◌, ◌*◌, ◌<◌, ◌≤◌, ◌==◌, length, Some, vec_len, slice_index, slice_set};
+ghost use Rattle.std.specs.Prelude.{◌≡◌, ℕ, ◌+◌, ◌-◌, ◌*◌, ◌<◌, ◌≤◌, ◌==◌, length, replicate, Some, vec_len, slice_index, slice_set};
 ghost use Rattle.counts.specs.Counts.{AliveIsReached, add_all, opened, Roomy};
 ghost use Rattle.counts.specs.Keeping.{retained, RetainKeeps, OpenKeeps, LinkKeeps, CountsFit};
 ghost use Rattle.page.specs.Block.{kids_of};
@@ -48,6 +48,13 @@ impl Counts {
         ensures { self.new.of.items ≡ slice_set self.old.of.items block count }
     {
         self.of[block as usize] = count;
+    }
+
+    // Takes all references away.
+    pub fn clear(&mut self)
+        ensures { self.new.of.items ≡ replicate (vec_len self.old.of) 0 }
+    {
+        self.of.fill(0);
     }
 
     // One reference more to a block; whether it is the first.

@@ -1,6 +1,6 @@
 // A device whose tree blocks are counted by their references.
 ghost use Rattle.std.specs.Prelude.{◌≡◌, ℕ, ◌+◌, ◌-◌, ◌<◌, ◌≤◌, ◌==◌, true, [], ◌∷◌, length, is_some, Some, vec_len, slice_index};
-ghost use Rattle.device.specs.Meaning.{blocks_of, reading};
+ghost use Rattle.device.specs.Meaning.{blocks_of, reading, written, flushed};
 ghost use Rattle.page.specs.Block.{block_at};
 ghost use Rattle.page.specs.Io.{Wide, ReadAs};
 ghost use Rattle.page.specs.View.{view};
@@ -87,6 +87,23 @@ impl<D: Device> Store<D> {
         read_block(&mut self.device, block)
     }
 
+    // Writes a value to a block, on a device that has a write left.
+    pub fn write<T: Stored>(&mut self, block: u32, value: &T)
+        requires on { block < blocks_of self.old.0 }
+        requires left { 1 ≤ self.old.0.left }
+        requires storable { T.Stored.storable value.now }
+        ensures { self.new ≡ (written self.old.0 block (T.Stored.words_of self.old.0.width value.now), self.old.1) }
+    {
+        write_block(&mut self.device, block, value).unwrap();
+    }
+
+    // Makes every current content the persisted one.
+    pub fn flush(&mut self)
+        ensures { self.new ≡ (flushed self.old.0, self.old.1) }
+    {
+        self.device.flush();
+    }
+
     // One reference more to a block; whether it is the first.
     pub fn retain(&mut self, block: u32) -> bool
         requires within { block < blocks_of self.old.0 }
@@ -126,7 +143,7 @@ impl<D: Device> Store<D> {
         requires low { page.now.level < 5 }
         ensures { self.new ≡ step (linking block (view page.now)) self.old }
     {
-        write_block(&mut self.device, block, page).unwrap();
+        self.write(block, page);
         self.counts.set(block, 1);
     }
 

@@ -1,5 +1,5 @@
 -- Mount accepts exactly the images that keep the layout.
-use Rattle.std.proofs.Common.{◌≡◌, ℕ, Bool, true, false, cond, List, Some, None, Ok, Err, Option, Result, sym, refl, ap, ◌∙◌, subst, inl, arith}
+use Rattle.std.proofs.Common.{◌≡◌, ℕ, Bool, true, false, cond, List, Some, None, Ok, Err, Option, Result, sym, refl, ap, ◌∙◌, subst, arith}
 use Rattle.device.specs.Meaning.{Meaning, Lawful, blocks_of, current_at}
 use Rattle.page.specs.Slot.{Table}
 use Rattle.model.specs.declared.refusal.Refusal.{Refusal}
@@ -10,7 +10,7 @@ use Rattle.model.specs.Reach.{roots_of}
 use Rattle.model.specs.World.{sizes, found, faulty, walked}
 use Rattle.model.proofs.Walks.{walk_exact}
 use Rattle.mount.specs.Counting.{Counting}
-use Rattle.mount.specs.Mounts.{current_slot, Kept, MountExact, Accepted, Refused}
+use Rattle.mount.specs.Mounts.{current_slot, Kept, MountExact, Accepted, Off}
 use Rattle.mount.proofs.Counting.{counted}
 use Rattle.mount.proofs.Slots.{usable_of, usable_to, pair_of, pair_used, used_rooted}
 
@@ -67,5 +67,5 @@ accepted m x cs w h c =
     let k = (mount_exact m x w).0 h in
     record { found = h; kept = k; sizes = usable_to m k.usable; standing = (k.trees, k.trees); counted = counted m cs x c; long = c.long }
 
-pub refused : (m : Meaning) (e : Refusal) → Lawful m → found m ≡ Err e → Refused m e
-refused m e w h = inl (record { found = h; off = off_layout m e w h })
+pub refused : (m : Meaning) (e : Refusal) → Lawful m → found m ≡ Err e → Off m e
+refused m e w h = record { found = h; off = off_layout m e w h }

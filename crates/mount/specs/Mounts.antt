@@ -1,11 +1,11 @@
 -- What mount promises.
-use Rattle.std.specs.Prelude.{◌≡◌, ℕ, suc, ◌%◌, true, ◌⊎◌, List, length, replicate, Ok, Err, Option}
+use Rattle.std.specs.Prelude.{◌≡◌, ℕ, suc, ◌%◌, true, false, ◌⊎◌, List, length, replicate, Ok, Err, Option}
 use Rattle.device.specs.Meaning.{Meaning, Lawful, words, written, blocks_of, current_at}
 use Rattle.page.specs.Block.{block_at}
 use Rattle.page.specs.Slot.{Table, slot_words, SlotFits}
 use Rattle.counts.specs.Counts.{Counted}
 use Rattle.model.specs.declared.refusal.Refusal.{Refusal}
-use Rattle.model.specs.declared.refusal.Refusal.TheVariants.{NoMemory}
+use Rattle.model.specs.declared.refusal.Refusal.TheVariants.{Shape, NoMemory}
 use Rattle.model.specs.TreeBlocks.{Good, AllGood}
 use Rattle.model.specs.World.{sizes, found, slot_in, latest, fresh}
 use Rattle.model.specs.Reach.{rootings, Standing}
@@ -41,6 +41,10 @@ MountExact = (m : Meaning) (x : ℕ × Table) → Lawful m → (found m ≡ Ok x
 pub record Blank (m : Meaning) (cs : List ℕ) : Type 0 where
   pub fit : sizes (blocks_of m) m.width ≡ true
   pub none : cs ≡ replicate (blocks_of m) 0
+
+-- no counts: the device does not fit, or there is no memory for them
+abbrev pub Countless : Meaning → Refusal → Type 0
+Countless m e = ((e ≡ Shape) × (sizes (blocks_of m) m.width ≡ false)) ⊎ ((e ≡ NoMemory) × (sizes (blocks_of m) m.width ≡ true))
 
 -- a volume that mount made, with this slot and these counts
 pub record Accepted (m : Meaning) (x : ℕ × Table) (cs : List ℕ) : Type 0 where

@@ -6,7 +6,7 @@ ghost use Rattle.page.specs.View.{slot_of};
 ghost use Rattle.model.specs.Reach.{roots_of};
 ghost use Rattle.model.specs.World.{sizes, found};
 ghost use Rattle.mount.specs.Counting.{Counting};
-ghost use Rattle.mount.specs.Mounts.{MountExact, Accepted, Refused, Blank};
+ghost use Rattle.mount.specs.Mounts.{MountExact, Accepted, Refused, Off, Blank, Countless};
 
 mod clones;
 mod format;
@@ -42,8 +42,8 @@ fn is_fitting(blocks: u32, width: u32) -> bool
 }
 
 // Counts of no references, for a device that a volume fits on.
-fn no_counts<D: Device>(heap: Global, device: &D) -> Result<Counts, Refusal>
-    ensures { MatchResult result (λ c. Blank (D.Device.meaning device.now) c.of.items) (λ e. Refused (D.Device.meaning device.now) e) }
+pub fn no_counts<D: Device>(heap: Global, device: &D) -> Result<Counts, Refusal>
+    ensures { MatchResult result (λ c. Blank (D.Device.meaning device.now) c.of.items) (λ e. Countless (D.Device.meaning device.now) e) }
 {
     let blocks = device.blocks();
     if !is_fitting(blocks, device.width()) {
@@ -64,15 +64,12 @@ fn count_clones<D: Device>(store: &mut Store<D>) -> Result<Slot, Refusal>
     Ok(slot)
 }
 
-// Mounts the volume that a device holds, or gives the device back with the reason why it holds none.
-pub fn mount_store<D: Device>(heap: Global, device: D) -> Result<Mounted<D>, (D, Refusal)>
+// Mounts the volume that a device holds, with counts at hand, or gives the device back with the reason why it holds none.
+pub fn mount_over<D: Device>(device: D, counts: Counts) -> Result<Mounted<D>, (D, Refusal)>
+    requires { Blank (D.Device.meaning device) counts.of.items }
     ensures kept { MatchResult result (λ v. v.store.0 ≡ D.Device.meaning device) (λ e. D.Device.meaning e.0 ≡ D.Device.meaning device) }
-    ensures answer { MatchResult result (λ v. Accepted (D.Device.meaning device) (slot_of v.slot) v.store.1) (λ e. Refused (D.Device.meaning device) e.1) }
+    ensures answer { MatchResult result (λ v. Accepted (D.Device.meaning device) (slot_of v.slot) v.store.1) (λ e. Off (D.Device.meaning device) e.1) }
 {
-    let counts = match no_counts(heap, &device) {
-        Ok(counts) => counts,
-        Err(refusal) => return Err((device, refusal)),
-    };
     let mut store = Store::new(device, counts);
     match count_clones(&mut store) {
         Ok(slot) => Ok(Mounted { store, slot }),
@@ -80,5 +77,16 @@ pub fn mount_store<D: Device>(heap: Global, device: D) -> Result<Mounted<D>, (D,
             let (device, _) = store.into_parts();
             Err((device, refusal))
         }
+    }
+}
+
+// Mounts the volume that a device holds, or gives the device back with the reason why it holds none.
+pub fn mount_store<D: Device>(heap: Global, device: D) -> Result<Mounted<D>, (D, Refusal)>
+    ensures kept { MatchResult result (λ v. v.store.0 ≡ D.Device.meaning device) (λ e. D.Device.meaning e.0 ≡ D.Device.meaning device) }
+    ensures answer { MatchResult result (λ v. Accepted (D.Device.meaning device) (slot_of v.slot) v.store.1) (λ e. Refused (D.Device.meaning device) e.1) }
+{
+    match no_counts(heap, &device) {
+        Ok(counts) => mount_over(device, counts),
+        Err(refusal) => Err((device, refusal)),
     }
 }

@@ -6,18 +6,18 @@ use Rattle.model.specs.Reach.{roots_of}
 use Rattle.model.specs.World.{found}
 use Rattle.mount.specs.Counting.{Counting}
 use Rattle.mount.proofs.Exact.{accepted, refused}
-use Rattle.mount.proofs.mount_store.Goals as goal
+use Rattle.mount.proofs.mount_over.Goals as goal
 
-pub returns-in-Ok-count_clones-clause-answer : goal.returns-in-Ok-count_clones-clause-answer
-returns-in-Ok-count_clones-clause-answer g c =
+pub returns-in-Ok-clause-answer : goal.returns-in-Ok-clause-answer
+returns-in-Ok-clause-answer g c =
     let m : Meaning = g.D.Device.meaning c.args.device in
-    let x = slot_of c.in-Ok-count_clones.slot in
+    let x = slot_of c.in-Ok.slot in
     let cs = c.count_clones.new.store.1 in
     let e : c.new-store.result.0 ≡ m = ap (λ (q : State). q.0) c.new-store.ensures in
-    let a = c.in-Ok-count_clones.ensures.answer in
+    let a = c.in-Ok.ensures.answer in
     accepted m x cs (g.D.Device.fit c.args.device) (ap found (sym e) ∙ a.0) (subst (λ m. Counting m cs (roots_of x.1)) e a.1)
 
-pub returns-in-Err-count_clones-clause-answer : goal.returns-in-Err-count_clones-clause-answer
-returns-in-Err-count_clones-clause-answer g c =
+pub returns-in-Err-clause-answer : goal.returns-in-Err-clause-answer
+returns-in-Err-clause-answer g c =
     let e : c.new-store.result.0 ≡ g.D.Device.meaning c.args.device = ap (λ (q : State). q.0) c.new-store.ensures in
-    refused (g.D.Device.meaning c.args.device) c.in-Err-count_clones.refusal (g.D.Device.fit c.args.device) (ap found (sym e) ∙ c.in-Err-count_clones.ensures.answer)
+    refused (g.D.Device.meaning c.args.device) c.in-Err.refusal (g.D.Device.fit c.args.device) (ap found (sym e) ∙ c.in-Err.ensures.answer)
