@@ -2,9 +2,9 @@
 use Rattle.std.proofs.Common.{Ok, Err, Result, ℕ, List, [], ◌∷◌, ◌++◌, map, take, sym, subst, subst₂}
 use Rattle.std.proofs.lemmas.List.{map-append}
 use Rattle.device.specs.Meaning.{Meaning}
-use Rattle.device.specs.Cuts.{Op, cut, replay}
+use Rattle.device.specs.Cuts.{cut, replay}
 use Rattle.model.specs.Plain.{Map, Call, Answer}
-use Rattle.model.specs.World.{Mode, Mode.mounted, Mode.down, Event, Event.did, Event.broke, Event.lost, Run, Step, bare}
+use Rattle.model.specs.World.{Mode, Mode.mounted, Mode.down, Event, Event.did, Event.broke, Event.lost, Run, bare}
 use Rattle.model.specs.Right.{Ends}
 use Rattle.model.specs.TwoRuns.{first, second, legal, Every}
 use Rattle.model.proofs.Right.{histories}

@@ -1,8 +1,11 @@
 // A volume and its device, in the state in which the last call or cut left them.
-ghost use Rattle.std.specs.Prelude.{◌≡◌, ℕ, List, length, drop};
+ghost use Rattle.std.specs.Prelude.{◌≡◌, ℕ, List, length, drop, MatchResult};
 ghost use Rattle.table.specs.declared.pair.Pair.{Pair};
 ghost use Rattle.model.specs.Plain.{Call.ask};
-ghost use Rattle.model.specs.World.{Mode.mounted, Mode.sealed, Mode.down};
+ghost use Rattle.model.specs.World.{Mode.mounted, Mode.sealed, Mode.down, Formatted, bare};
+ghost use Rattle.device.specs.Cuts.{replay};
+ghost use Rattle.model.specs.Onward.{formatting};
+ghost use Rattle.mount.specs.Formats.{Hindered};
 ghost use Rattle.history.specs.Calls.{ask_of, call_of, answer_of, shown, summed};
 ghost use Rattle.history.specs.Law.{Lawful};
 ghost use Rattle.history.specs.Machine.{Stepped, Outcome, state_of};
@@ -91,15 +94,18 @@ fn while_mounted<D: Device, S: Summary>(
 
 // A call of a sealed volume.
 fn while_sealed<D: Device, S: Summary>(
-    sealed: Sealed<D>,
+    volume: Sealed<D>,
     call: Call,
 ) -> (Machine<D>, Result<Answer<S>, Denied>)
-    ensures { (k : ℕ) (out : List Pair) → Outcome (Stepped S (summed S.none S.joined S.value_of)) out (sealed sealed.0, sealed.1) (call_of k call) result.1 (state_of D.Device.meaning result.0) }
+    ensures { (k : ℕ) (out : List Pair) → Outcome (Stepped S (summed S.none S.joined S.value_of)) out (sealed volume.0, volume.1) (call_of k call) result.1 (state_of D.Device.meaning result.0) }
 {
     match call {
-        Call::Finish => (Machine::Mounted(sealed.finish()), Ok(Answer::Done)),
-        Call::Reopen => (Machine::Mounted(sealed.reopen()), Ok(Answer::Done)),
-        Call::Ask(_) | Call::Seal | Call::Mount => (Machine::Sealed(sealed), Err(Denied::OutOfTurn)),
+        Call::Finish => (Machine::Mounted(volume.finish()), Ok(Answer::Done)),
+        Call::Reopen => (Machine::Mounted(volume.reopen()), Ok(Answer::Done)),
+        Call::Ask(_) | Call::Seal | Call::Mount => (
+            Machine::Sealed(volume),
+            Err(Denied::OutOfTurn),
+        ),
     }
 }
 
@@ -135,7 +141,7 @@ fn step<D: Device, S: Summary>(
 {
     match machine {
         Machine::Mounted(volume) => while_mounted(volume, call, out),
-        Machine::Sealed(sealed) => while_sealed(sealed, call),
+        Machine::Sealed(volume) => while_sealed(volume, call),
         Machine::Down(device) => while_down(heap, device, call),
     }
 }
@@ -169,7 +175,7 @@ impl<D: Device> Machine<D> {
     {
         match self {
             Machine::Mounted(volume) => volume.into_device(),
-            Machine::Sealed(sealed) => sealed.reopen().into_device(),
+            Machine::Sealed(volume) => volume.reopen().into_device(),
             Machine::Down(device) => device,
         }
     }

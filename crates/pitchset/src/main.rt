@@ -6,7 +6,6 @@ mod pile;
 mod planner;
 mod report;
 
-use history::Machine;
 use pile::Medium;
 
 fn run(rt: &HostRuntime) -> anyhow::Result<()> {
@@ -14,12 +13,15 @@ fn run(rt: &HostRuntime) -> anyhow::Result<()> {
     println!(rt;
         "pile: a mirror of (check over memory) and (check over log), 24 blocks of 32 words"
     )?;
-    planner::before_the_cut(rt, medium.open()?)?;
+    let pile = medium.open()?;
+    planner::before_the_cut(rt, pile)?;
     medium.lose_power();
     println!(rt;
         "The power fails. Of the memory only the persisted words are left, of the log its image."
     )?;
-    planner::after_the_cut(rt, Machine::Down(medium.open()?))
+    let pile = medium.open()?;
+    planner::after_the_cut(rt, pile)?;
+    Ok(())
 }
 
 fn main(rt: HostRuntime) -> anyhow::Result<()> {

@@ -134,7 +134,7 @@ fn print_answer(rt: &HostRuntime, call: Call, answer: Answered) -> anyhow::Resul
         Ok(Answer::Done) => println!(rt; "ok")?,
         Ok(Answer::Angle(None)) => println!(rt; "none")?,
         Ok(Answer::Angle(Some(angle))) => {
-            let angle = Hundredths(angle);
+            let angle = Hundredths::from(angle);
             println!(rt; "{angle} degrees")?
         },
         Ok(Answer::Listed(rows)) => println!(rt; "{rows} rows")?,
@@ -221,7 +221,7 @@ fn compare<D: Device + Drop>(rt: &HostRuntime, machine: Machine<D>) -> anyhow::R
 }
 
 // Formats the device, keeps the type's table and its turbines' on it, commits, and changes them once more.
-pub(crate) fn before_the_cut<D: Device + Drop>(rt: &HostRuntime, device: D) -> anyhow::Result<()> {
+pub(crate) fn before_the_cut<D: Device + Drop>(rt: &HostRuntime, device: D) -> anyhow::Result<D> {
     let Ok(machine) = Machine::format(rt.alloc(), device) else {
         return Err(anyhow!("the pile cannot be formatted"));
     };
@@ -241,18 +241,15 @@ pub(crate) fn before_the_cut<D: Device + Drop>(rt: &HostRuntime, device: D) -> a
     println!(rt; "Committed:")?;
     let machine = make(rt, machine, &COMMITTING)?;
     println!(rt; "Changed, and not committed:")?;
-    make(rt, machine, &UNCOMMITTED)?;
-    Ok(())
+    let machine = make(rt, machine, &UNCOMMITTED)?;
+    Ok(machine.into_device())
 }
 
 // Mounts what the cut left: what was committed, whole.
-pub(crate) fn after_the_cut<D: Device + Drop>(
-    rt: &HostRuntime,
-    machine: Machine<D>,
-) -> anyhow::Result<()> {
-    let machine = make(rt, machine, &[Call::Mount])?;
+pub(crate) fn after_the_cut<D: Device + Drop>(rt: &HostRuntime, device: D) -> anyhow::Result<D> {
+    let machine = make(rt, Machine::Down(device), &[Call::Mount])?;
     println!(rt; "What was committed is there, whole:")?;
     let machine = compare(rt, machine)?;
-    make(rt, machine, &READING)?;
-    Ok(())
+    let machine = make(rt, machine, &READING)?;
+    Ok(machine.into_device())
 }

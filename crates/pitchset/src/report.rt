@@ -9,7 +9,19 @@ pub(crate) type Totals = (Count, (Span, Sum));
 
 // A number of hundredths, as a decimal fraction.
 #[derive(Clone, Copy)]
-pub(crate) struct Hundredths(pub(crate) i32);
+pub(crate) struct Hundredths(i64);
+
+impl From<u32> for Hundredths {
+    fn from(number: u32) -> Hundredths {
+        Hundredths(i64::from(number))
+    }
+}
+
+impl From<i32> for Hundredths {
+    fn from(number: i32) -> Hundredths {
+        Hundredths(i64::from(number))
+    }
+}
 
 impl fmt::Display for Hundredths {
     fn fmt<W: fmt::Write>(&self, f: &mut fmt::Formatter<W>) -> fmt::Result {
@@ -44,31 +56,36 @@ pub(crate) fn print_columns(
     columns: &[Column],
 ) -> anyhow::Result<()> {
     let mut speeds = BTreeSet::new(heap);
-    print!(rt; "    m/s   ")?;
+    print!(rt; "      m/s")?;
     for column in columns {
         let clone = column.clone;
-        print!(rt; "  clone {clone:<2}")?;
+        print!(rt; "  clone {clone:>3}")?;
         for row in &column.rows {
             speeds.insert(row.speed)?;
         }
     }
     println!(rt; "")?;
     for speed in &speeds {
-        print_line(rt, columns, *speed)?;
+        print_line(rt, heap, columns, *speed)?;
     }
     Ok(())
 }
 
-fn print_line(rt: &HostRuntime, columns: &[Column], speed: u32) -> anyhow::Result<()> {
-    let shown = Hundredths(speed as i32);
-    print!(rt; "    {shown:<6}")?;
+fn print_line(
+    rt: &HostRuntime,
+    heap: Global,
+    columns: &[Column],
+    speed: u32,
+) -> anyhow::Result<()> {
+    let shown = format!(in heap; "{}", Hundredths::from(speed))?;
+    print!(rt; "    {shown:>5}")?;
     for column in columns {
         match column.angle_at(speed) {
-            None => print!(rt; "        --")?,
+            None => print!(rt; "          -")?,
             Some(angle) => {
-                let angle = Hundredths(angle);
-                print!(rt; "  {angle:>8}")?
-            }
+                let shown = format!(in heap; "{}", Hundredths::from(angle))?;
+                print!(rt; "  {shown:>9}")?
+            },
         }
     }
     println!(rt; "")?;
@@ -79,11 +96,11 @@ pub(crate) fn print_totals(rt: &HostRuntime, totals: Totals) -> anyhow::Result<(
     let (Count { rows }, (Span { extent }, Sum { angles })) = totals;
     print!(rt; "{rows} rows")?;
     if let Some(extent) = extent {
-        let lowest = Hundredths(extent.lowest);
-        let highest = Hundredths(extent.highest);
+        let lowest = Hundredths::from(extent.lowest);
+        let highest = Hundredths::from(extent.highest);
         print!(rt; ", {lowest} to {highest} degrees")?;
     }
-    let sum = Hundredths(angles);
+    let sum = Hundredths::from(angles);
     println!(rt; ", {sum} in all")?;
     Ok(())
 }

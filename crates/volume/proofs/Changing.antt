@@ -25,8 +25,9 @@ use Rattle.model.proofs.Grants.{sizes_parts}
 use Rattle.model.proofs.Histories.{keeps_free}
 use Rattle.model.proofs.Reach.{use_is_reach, free_by_counts}
 use Rattle.edit.specs.Edited.{Counting, Editable, WritesFree, given_up, Edited}
+use Rattle.volume.specs.Sealing.{root_in}
 use Rattle.volume.specs.Kept.{Kept, lacking}
-use Rattle.volume.proofs.Places.{root_in, others, roots_split, roots_placed, few_rootings}
+use Rattle.volume.proofs.Places.{others, roots_split, roots_placed, few_rootings}
 
 pub raw_payload : (a : ℤ) → payload_of a ≡ raw a
 raw_payload (pos n) = refl

@@ -1,5 +1,5 @@
 -- A clone that is there; one more clone of its tree; one clone less.
-use Rattle.std.proofs.Common.{◌≡◌, ℕ, ◌+◌, ◌<◌, ◌≤◌, List, [], ◌∷◌, length, get_or, set, Some, None, Option, sym, refl, ap, ◌∙◌, subst, arith, length-set, ⊎_elim}
+use Rattle.std.proofs.Common.{◌≡◌, ℕ, zero, suc, ◌+◌, ◌-◌, ◌<◌, ◌≤◌, List, [], ◌∷◌, length, get_or, set, Some, None, Option, sym, refl, ap, ◌∙◌, subst, arith, length-set, ⊎_elim}
 use Rattle.std.proofs.lemmas.List.{get_or_past}
 use Rattle.std.proofs.lemmas.Bool.{cases_lt}
 use Rattle.device.specs.Meaning.{blocks_of, current_at}
@@ -16,15 +16,20 @@ use Rattle.model.specs.World.{Tables, placed}
 use Rattle.model.specs.Reach.{rootings}
 use Rattle.model.proofs.Frames.{OnPlace, good_at, good_set}
 use Rattle.model.proofs.Grants.{sizes_parts}
+use Rattle.volume.specs.Sealing.{root_in}
 use Rattle.volume.specs.Kept.{Kept}
-use Rattle.volume.proofs.Places.{root_in, others, roots_split, roots_placed, few_rootings}
+use Rattle.volume.proofs.Places.{others, roots_split, roots_placed, few_rootings}
+
+pub top_is : (h : ℕ) → 1 ≤ h → top_level h ≡ h - 1
+top_is zero p = absurd (omega arith)
+top_is (suc l) p = omega arith
 
 module _ (t : Tables) (q : State) (K : Kept t q) where
   pub few : length q.1 ≤ 4096
   few = let p = sizes_parts (blocks_of q.0) q.0.width K.sized in omega (arith, p.1, K.long)
 
   -- a place changes from what it was to o, and so do the counts: the references from all other places stay
-  changed : (n : ℕ) → n < 24 → (o : Option Root) (cs : List ℕ) → OnPlace (Good (blocks_of q.0) (current_at q.0)) o → length cs ≡ length q.1
+  pub changed : (n : ℕ) → n < 24 → (o : Option Root) (cs : List ℕ) → OnPlace (Good (blocks_of q.0) (current_at q.0)) o → length cs ≡ length q.1
       → Counted (block_at q.0) cs (λ b. occ b (root_in o) + others t n b) → Kept (placed t (set t.working n o)) (q.0, cs)
   changed n h o cs g e c = record {
     sized = K.sized;
@@ -72,7 +77,7 @@ module _ (t : Tables) (q : State) (K : Kept t q) where
         (add_one_more (block_at q.0) q.1 (rootings t) r.1 K.counted alive))
 
     -- the clone is gone
-    level_here : level_of (block_at q.0 r.1) ≡ top_level r.0
+    pub level_here : level_of (block_at q.0 r.1) ≡ top_level r.0
     unfolding block_at tree_at
     level_here = ap level_of good.stored.0
 

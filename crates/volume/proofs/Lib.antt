@@ -5,3 +5,5 @@ pub mod Calls
 pub mod Changing
 pub mod Reading
 pub mod Removing
+pub mod Sealing
+pub mod Formatting

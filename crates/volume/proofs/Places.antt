@@ -1,15 +1,12 @@
 -- The roots of the places, when one place changes.
-use Rattle.std.proofs.Common.{◌≡◌, ℕ, zero, suc, ◌+◌, ◌<◌, ◌≤◌, List, [], ◌∷◌, length, set, Some, None, Option, refl, arith}
+use Rattle.std.proofs.Common.{◌≡◌, ℕ, zero, suc, ◌+◌, ◌<◌, ◌≤◌, [], ◌∷◌, length, set, Some, None, Option, refl, arith}
 use Rattle.page.specs.Slot.{Root, Table}
 use Rattle.counts.specs.Counts.{one, occ}
 use Rattle.counts.proofs.Opens.{occ_append, occ_le}
 use Rattle.model.specs.Plain.{place}
 use Rattle.model.specs.World.{Tables, placed}
 use Rattle.model.specs.Reach.{roots_of, rootings}
-
-abbrev pub root_in : Option Root → List ℕ
-root_in None = []
-root_in (Some r) = r.1 ∷ []
+use Rattle.volume.specs.Sealing.{root_in}
 
 roots_cons : (b : ℕ) (o : Option Root) (t : Table) → occ b (roots_of (o ∷ t)) ≡ occ b (root_in o) + occ b (roots_of t)
 roots_cons b None t = omega arith

@@ -3,25 +3,29 @@
 
 ghost use Rattle.std.specs.Prelude.{◌≡◌, ℕ, ◌<◌, ◌≤◌, true, min, length, map, take, drop, Some, None, Ok, IfOk, OnErr, MatchResult};
 ghost use Rattle.model.specs.Plain.{Ask.create, Ask.clone, Ask.delete, Ask.put, Ask.remove, Ask.get, Ask.at, Ask.rows, Ask.summary, early, from, has, place};
-ghost use Rattle.page.specs.View.{root_of};
+ghost use Rattle.page.specs.View.{root_of, slot_of};
 ghost use Rattle.device.specs.Meaning.{blocks_of};
 ghost use Rattle.table.specs.Angles.{angle_at};
 ghost use Rattle.tree.specs.Reads.{look, total};
 ghost use Rattle.edit.specs.Edited.{Granted};
 ghost use Rattle.page.specs.Slot.{Table};
-ghost use Rattle.model.specs.World.{sizes, found, fresh};
-ghost use Rattle.mount.specs.Mounts.{Refused};
+ghost use Rattle.model.specs.World.{sizes, found, fresh, bare};
+ghost use Rattle.mount.specs.Formats.{Made, Hindered};
+ghost use Rattle.mount.specs.Mounts.{Accepted, Off, Refused};
 ghost use Rattle.reads.specs.Lists.{row_in};
 ghost use Rattle.volume.specs.Kept.{Called, lacking, rows_of_clone};
+
+mod sealed;
 
 use counts::{Grant, Store};
 use device::Device;
 use edit::{create_tree, put_tree};
 use model::Refusal;
-use mount::{Mounted, mount_store};
+use mount::{Mounted, format_device, mount_over, mount_store, no_counts};
 use page::page::Entry;
 use page::roots::{Root, Slot};
 use removal::remove_tree;
+pub use sealed::Sealed;
 use std::alloc::Global;
 use std::marker::Model;
 use table::{Pair, Row, Summary};
@@ -73,6 +77,25 @@ fn reserve<D: Device>(store: &Store<D>, clone: u32, n: u32) -> Result<Grant, Ref
 }
 
 impl<D: Device> Volume<D> {
+    // Makes an empty volume on a device, or gives the device back with the reason why it cannot.
+    pub fn format(heap: Global, device: D) -> Result<Volume<D>, (D, Refusal)>
+        ensures { MatchResult result
+            (λ v. (v.0 ≡ bare) × Made (D.Device.meaning device) v.1)
+            (λ e. (D.Device.meaning e.0 ≡ D.Device.meaning device) × Hindered (D.Device.meaning device) e.1) }
+    {
+        let counts = match no_counts(heap, &device) {
+            Ok(counts) => counts,
+            Err(refusal) => return Err((device, refusal)),
+        };
+        let device = format_device(device)?;
+        Ok(Volume {
+            store: Store::new(device, counts),
+            working: [None; 24],
+            committed: [None; 24],
+            generation: 1,
+        })
+    }
+
     // Mounts what a device holds, or gives the device back with the reason why it holds no volume.
     pub fn mount(heap: Global, device: D) -> Result<Volume<D>, (D, Refusal)>
         ensures kept { MatchResult result (λ v. v.1 ≡ D.Device.meaning device) (λ e. D.Device.meaning e.0 ≡ D.Device.meaning device) }
@@ -80,14 +103,40 @@ impl<D: Device> Volume<D> {
             (λ v. (x : ℕ × Table) × (found (D.Device.meaning device) ≡ Ok x) × (v.0 ≡ fresh x))
             (λ e. Refused (D.Device.meaning device) e.1) }
     {
-        let Mounted { store, slot } = mount_store(heap, device)?;
+        Ok(Volume::over(mount_store(heap, device)?))
+    }
+
+    // Mounts again what the device holds, by the memory that the counts have.
+    pub fn remount(self) -> Result<Volume<D>, (D, Refusal)>
+        ensures kept { MatchResult result (λ v. v.1 ≡ self.1) (λ e. D.Device.meaning e.0 ≡ self.1) }
+        ensures answer { MatchResult result
+            (λ v. (x : ℕ × Table) × (found self.1 ≡ Ok x) × (v.0 ≡ fresh x))
+            (λ e. Off self.1 e.1) }
+    {
+        let Volume {
+            store,
+            working: _,
+            committed: _,
+            generation: _,
+        } = self;
+        let (device, mut counts) = store.into_parts();
+        counts.clear();
+        Ok(Volume::over(mount_over(device, counts)?))
+    }
+
+    // The volume that was mounted.
+    fn over(mounted: Mounted<D>) -> Volume<D>
+        requires { Accepted mounted.store.0 (slot_of mounted.slot) mounted.store.1 }
+        ensures { result ≡ (fresh (slot_of mounted.slot), mounted.store.0) }
+    {
+        let Mounted { store, slot } = mounted;
         let Slot { generation, places } = slot;
-        Ok(Volume {
+        Volume {
             store,
             working: places,
             committed: places,
             generation,
-        })
+        }
     }
 
     // Gives the device back as it is.

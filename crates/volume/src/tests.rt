@@ -1,8 +1,7 @@
-// A clone of a clone on 32 blocks in memory.
+// A clone of a clone, a sealed volume, and refused devices, all in memory.
 use crate::Volume;
 use memory::Memory;
 use model::Refusal;
-use mount::format_device;
 use std::test::Fail;
 use table::{Count, Extent, Pair, Span, Sum};
 
@@ -14,11 +13,8 @@ fn siblings_keep_their_rows(rt: HostRuntime) -> Result<(), Fail> {
     let Ok(memory) = Memory::open(&mut current, &mut persisted, &mut marks, 32) else {
         return Err(Fail::new("the slices have the shape"));
     };
-    let Ok(memory) = format_device(memory) else {
+    let Ok(mut volume) = Volume::format(rt.alloc(), memory) else {
         return Err(Fail::new("a memory of that size is formatted"));
-    };
-    let Ok(mut volume) = Volume::mount(rt.alloc(), memory) else {
-        return Err(Fail::new("a formatted memory mounts"));
     };
     assert_eq!(rt; volume.create(0), Ok(()));
     assert_eq!(rt; volume.create(0), Err(Refusal::Taken));
@@ -62,5 +58,61 @@ fn siblings_keep_their_rows(rt: HostRuntime) -> Result<(), Fail> {
     assert_eq!(rt; volume.get(0, 400), Err(Refusal::Absent));
     assert_eq!(rt; volume.get(7, 1_200), Ok(Some(250)));
     let _memory = volume.into_device();
+    Ok(())
+}
+
+#[test]
+fn a_finished_table_is_mounted(rt: HostRuntime) -> Result<(), Fail> {
+    let mut current = [0u32; 1024];
+    let mut persisted = [0u32; 1024];
+    let mut marks = [0u8; 32];
+    let Ok(memory) = Memory::open(&mut current, &mut persisted, &mut marks, 32) else {
+        return Err(Fail::new("the slices have the shape"));
+    };
+    let Ok(mut volume) = Volume::format(rt.alloc(), memory) else {
+        return Err(Fail::new("a memory of that size is formatted"));
+    };
+    assert_eq!(rt; volume.create(3), Ok(()));
+    assert_eq!(rt; volume.put(3, 700, 40), Ok(()));
+    let Ok(sealed) = volume.seal() else {
+        return Err(Fail::new("a new volume is sealed"));
+    };
+    let mut volume = sealed.finish();
+    assert_eq!(rt; volume.put(3, 700, 55), Ok(()));
+    assert_eq!(rt; volume.create(4), Ok(()));
+    let Ok(sealed) = volume.seal() else {
+        return Err(Fail::new("a finished volume is sealed again"));
+    };
+    let mut volume = sealed.reopen();
+    assert_eq!(rt; volume.get(3, 700), Ok(Some(55)));
+    let Ok(mut volume) = volume.remount() else {
+        return Err(Fail::new("a finished volume mounts again"));
+    };
+    assert_eq!(rt; volume.get(3, 700), Ok(Some(40)));
+    assert_eq!(rt; volume.get(4, 700), Err(Refusal::Absent));
+    let Ok(mut volume) = Volume::mount(rt.alloc(), volume.into_device()) else {
+        return Err(Fail::new("a finished volume mounts"));
+    };
+    assert_eq!(rt; volume.get(3, 700), Ok(Some(40)));
+    let _memory = volume.into_device();
+    Ok(())
+}
+
+#[test]
+fn a_small_memory_is_refused(rt: HostRuntime) -> Result<(), Fail> {
+    let mut current = [0u32; 480];
+    let mut persisted = [0u32; 480];
+    let mut marks = [0u8; 15];
+    let Ok(memory) = Memory::open(&mut current, &mut persisted, &mut marks, 32) else {
+        return Err(Fail::new("the slices have the shape"));
+    };
+    let Err((memory, refusal)) = Volume::format(rt.alloc(), memory) else {
+        return Err(Fail::new("15 blocks are too few"));
+    };
+    assert_eq!(rt; refusal.number(), 2);
+    let Err((_memory, refusal)) = Volume::mount(rt.alloc(), memory) else {
+        return Err(Fail::new("15 blocks are too few"));
+    };
+    assert_eq!(rt; refusal.number(), 2);
     Ok(())
 }

@@ -1,14 +1,13 @@
-use Rattle.std.proofs.Common.{rules, ◌≡◌, ◌-◌, ◌≤◌, ℕ, zero, suc, set, Some, None, Ok, sym, ap, ◌∙◌, subst, arith}
+use Rattle.std.proofs.Common.{rules, ◌≡◌, ◌≤◌, set, Some, None, Ok, sym, ap, ◌∙◌, subst}
 use Rattle.device.specs.Meaning.{Meaning}
 use Rattle.counts.specs.Moves.{State, Held}
 use Rattle.page.specs.Slot.{Root}
 use Rattle.model.specs.Plain.Ask.{delete}
 use Rattle.model.specs.Plain.{early, has, place}
-use Rattle.model.specs.TreeBlocks.{top_level}
 use Rattle.model.specs.World.{Tables, placed}
 use Rattle.volume.specs.Kept.{tables, Kept, Called}
 use Rattle.volume.proofs.Asking.{denied_early}
-use Rattle.volume.proofs.Clones.{good, held, dropped}
+use Rattle.volume.proofs.Clones.{good, held, dropped, top_is}
 use Rattle.volume.proofs.Calls.{tables_set, delete_called}
 use Rattle.volume.proofs.Volume.delete.Goals as goal
 
@@ -22,10 +21,6 @@ overflow_sub-root g c =
     let r : Root = (c.in_ok-root.root.height, c.in_ok-root.root.block) in
     let i = c.self.inside in
     (good (tables i.working i.committed i.generation) i.store c.self.invariant c.args.n r (ap (λ (v : Tables × Meaning). place v.0.working c.args.n) c.self.view_is ∙ c.in_ok-root.ensures.2) c.in_ok-root.ensures.1).height
-
-top_is : (h : ℕ) → 1 ≤ h → top_level h ≡ h - 1
-top_is zero p = absurd (omega arith)
-top_is (suc l) p = omega arith
 
 pub release-requires : goal.release-requires
 release-requires g c =
