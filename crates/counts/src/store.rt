@@ -16,6 +16,7 @@ use page::stored::Stored;
 use std::marker::Model;
 
 // A device of a width that a volume uses, and as many counts as it has blocks.
+#[derive(Drop)]
 pub struct Store<D: Device> {
     device: D,
     counts: Counts,

@@ -1,24 +1,27 @@
-// Keeps the pitch table of a turbine type on a pile of devices, through a cut of the power, and says what happened.
+// A planner keeps the pitch tables of a wind park on a pile of devices, through a cut of the power.
+// Each call is printed with its answer.
 #![tactic(auto)]
 
 mod pile;
+mod planner;
 mod report;
-mod store;
-mod task;
 
 use pile::Medium;
 
 fn run(rt: &HostRuntime) -> anyhow::Result<()> {
     let mut medium = Medium::blank(rt.alloc())?;
     println!(rt;
-        "pile: a mirror of (check over memory) and (check over log), 16 blocks of 32 words"
+        "pile: a mirror of (check over memory) and (check over log), 24 blocks of 32 words"
     )?;
-    task::before_the_cut(rt, &mut medium.open()?)?;
+    let pile = medium.open()?;
+    planner::before_the_cut(rt, pile)?;
     medium.lose_power();
     println!(rt;
         "The power fails. Of the memory only the persisted words are left, of the log its image."
     )?;
-    task::after_the_cut(rt, &mut medium.open()?)
+    let pile = medium.open()?;
+    planner::after_the_cut(rt, pile)?;
+    Ok(())
 }
 
 fn main(rt: HostRuntime) -> anyhow::Result<()> {

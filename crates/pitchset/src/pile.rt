@@ -7,8 +7,13 @@ use mirror::Mirror;
 use std::alloc::{AllocError, Global};
 use word::Kind;
 
+const BLOCKS: usize = 24;
+
 // The words of a block below the check layers: one more than above.
 const WIDTH: usize = 33;
+
+// How many writes the log has room for.
+const RECORDS: usize = 200;
 
 // A mirror of (check over memory) and (check over log).
 pub(crate) type Pile<'a> = Mirror<Check<Memory<'a>>, Check<Log<'a>>>;
@@ -24,14 +29,14 @@ pub(crate) struct Medium {
 }
 
 impl Medium {
-    // 16 blocks in memory, and a new log of 40 records.
+    // A memory, and a log with no record.
     pub(crate) fn blank(heap: Global) -> Result<Medium, AllocError> {
-        let mut image = vec![in heap; 0u32; 1361]?;
+        let mut image = vec![in heap; 0u32; 1 + RECORDS * (1 + WIDTH)]?;
         image[0] = Kind::Log.word(0);
         Ok(Medium {
-            current: vec![in heap; 0u32; 528]?,
-            persisted: vec![in heap; 0u32; 528]?,
-            marks: vec![in heap; 0u8; 16]?,
+            current: vec![in heap; 0u32; BLOCKS * WIDTH]?,
+            persisted: vec![in heap; 0u32; BLOCKS * WIDTH]?,
+            marks: vec![in heap; 0u8; BLOCKS]?,
             image,
             heap,
         })
@@ -53,7 +58,7 @@ impl Medium {
         ) else {
             return Err(anyhow!("the memory's slices are not of one shape"));
         };
-        let Ok(log) = Log::open(heap, &mut self.image, 16, WIDTH) else {
+        let Ok(log) = Log::open(heap, &mut self.image, BLOCKS as u32, WIDTH) else {
             return Err(anyhow!("the log's image does not open"));
         };
         let Ok(first) = Check::build(memory) else {

@@ -29,3 +29,32 @@ pub trait Summary: Sized {
 
     ghost associates: { (x y z : Self) → joined (joined x y) z ≡ joined x (joined y z) };
 }
+
+// Two summaries in one.
+impl<A: Summary, B: Summary> Summary for (A, B) {
+    ghost use Rattle.std.proofs.Common.{ap₂};
+
+    ghost none = { (A.none, B.none) };
+
+    ghost value_of = { λ s a. (A.value_of s a, B.value_of s a) };
+
+    ghost joined = { λ x y. (A.joined x.0 y.0, B.joined x.1 y.1) };
+
+    fn empty() -> (A, B) {
+        (A::empty(), B::empty())
+    }
+
+    fn of_row(row: Row) -> (A, B) {
+        (A::of_row(row), B::of_row(row))
+    }
+
+    fn join(self, other: (A, B)) -> (A, B) {
+        (self.0.join(other.0), self.1.join(other.1))
+    }
+
+    ghost none_before = { λ x. ap₂ (λ a b. (a, b)) (A.none_before x.0) (B.none_before x.1) };
+
+    ghost none_after = { λ x. ap₂ (λ a b. (a, b)) (A.none_after x.0) (B.none_after x.1) };
+
+    ghost associates = { λ x y z. ap₂ (λ a b. (a, b)) (A.associates x.0 y.0 z.0) (B.associates x.1 y.1 z.1) };
+}

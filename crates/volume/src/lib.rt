@@ -31,6 +31,7 @@ use std::marker::Model;
 use table::{Pair, Row, Summary};
 
 // 24 clones of pitch tables on a device, and the 24 that were committed last.
+#[derive(Drop)]
 pub struct Volume<D: Device> {
     store: Store<D>,
     working: [Option<Root>; 24],

@@ -19,6 +19,7 @@ use page::roots::{Root, Slot};
 use std::marker::Model;
 
 // A sealed volume takes no call but finish and reopen.
+#[derive(Drop)]
 pub struct Sealed<D: Device> {
     volume: Volume<D>,
 }

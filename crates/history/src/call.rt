@@ -1,0 +1,49 @@
+// What a machine is asked, and what it answers.
+
+use model::Refusal;
+
+// What a mounted volume is asked.
+#[derive(Clone, Copy, PartialEq, Eq, Debug)]
+pub enum Ask {
+    Create { clone: u32 },
+    Clone { from: u32, to: u32 },
+    Delete { clone: u32 },
+    Put { clone: u32, speed: u32, angle: i32 },
+    Remove { clone: u32, speed: u32 },
+    Get { clone: u32, speed: u32 },
+    At { clone: u32, speed: u32 },
+    List { clone: u32, speed: u32 },
+    Summary { clone: u32 },
+}
+
+#[derive(Clone, Copy, PartialEq, Eq, Debug)]
+pub enum Call {
+    Ask(Ask),
+    Seal,
+    Finish,
+    Reopen,
+    Mount,
+}
+
+// What a call answers that is not refused.
+#[derive(Clone, Copy, PartialEq, Eq, Debug)]
+pub enum Answer<S> {
+    Done,
+    // The angle that is there, or was there.
+    Angle(Option<i32>),
+    // How many rows were written to the slice.
+    Listed(usize),
+    // A summary of the clone's rows.
+    Joined(S),
+}
+
+// Why a call changed nothing.
+#[derive(Clone, Copy, PartialEq, Eq, Debug)]
+pub enum Denied {
+    // The machine is not in the state that the call is for.
+    OutOfTurn,
+    // There is no memory for the counts of the volume to be mounted.
+    NoMemory,
+    // The volume refuses, or the device holds none.
+    Refused(Refusal),
+}
