@@ -1,6 +1,7 @@
 // The calls that are measured.
 use super::tally::Tally;
 use anyhow::anyhow;
+use device::Device;
 use memory::Memory;
 use model::Refusal;
 use std::alloc::{AllocError, Global};
@@ -29,9 +30,6 @@ impl Medium {
         })
     }
 }
-
-// A device in memory that counts what is read and written.
-type Counted<'a> = Tally<Memory<'a>>;
 
 #[derive(Clone, Copy)]
 enum Call {
@@ -86,7 +84,12 @@ fn speed_of(i: u32) -> u32 {
 }
 
 // Makes the call for the i-th time, on a clone of so many rows.
-fn make(volume: &mut Volume<Counted<'_>>, call: Call, rows: u32, i: u32) -> Result<(), Refusal> {
+fn make<D: Device>(
+    volume: &mut Volume<Tally<D>>,
+    call: Call,
+    rows: u32,
+    i: u32,
+) -> Result<(), Refusal> {
     let speed = speed_of(i % rows.max(1));
     match call {
         Call::Get => {
@@ -106,7 +109,7 @@ fn make(volume: &mut Volume<Counted<'_>>, call: Call, rows: u32, i: u32) -> Resu
 }
 
 // Mounts the volume that a device holds.
-fn mount<'a>(heap: Global, device: Counted<'a>) -> anyhow::Result<Volume<Counted<'a>>> {
+fn mount<D: Device + Drop>(heap: Global, device: Tally<D>) -> anyhow::Result<Volume<Tally<D>>> {
     match Volume::mount(heap, device) {
         Ok(volume) => Ok(volume),
         Err((_, refusal)) => Err(anyhow!("the volume does not mount: {refusal}")),
@@ -114,7 +117,7 @@ fn mount<'a>(heap: Global, device: Counted<'a>) -> anyhow::Result<Volume<Counted
 }
 
 // A committed volume whose clone 0 has so many rows.
-fn fill<'a>(heap: Global, device: Counted<'a>, rows: u32) -> anyhow::Result<Counted<'a>> {
+fn fill<D: Device + Drop>(heap: Global, device: Tally<D>, rows: u32) -> anyhow::Result<Tally<D>> {
     let Ok(volume) = Volume::format(heap, device) else {
         return Err(anyhow!("the memory cannot be formatted"));
     };
@@ -152,11 +155,11 @@ fn print_cost(rt: &HostRuntime, name: &str, cost: Cost, spent: Option<Duration>)
 }
 
 // Mounts the device once, and prints what that costs: how many blocks were read.
-fn measure_mount<'a>(
+fn measure_mount<D: Device + Drop>(
     rt: &HostRuntime,
-    device: Counted<'a>,
+    device: Tally<D>,
     timed: bool,
-) -> anyhow::Result<(Counted<'a>, u64)> {
+) -> anyhow::Result<(Tally<D>, u64)> {
     let mut device = device;
     device.reset();
     let start = Instant::now(rt)?;
@@ -173,14 +176,14 @@ fn measure_mount<'a>(
 }
 
 // Makes a call again and again on a volume that a mount of so many reads gives, and prints what it costs.
-fn measure_call<'a>(
+fn measure_call<D: Device + Drop>(
     rt: &HostRuntime,
-    device: Counted<'a>,
+    device: Tally<D>,
     call: Call,
     rows: u32,
     mounting: u64,
     timed: bool,
-) -> anyhow::Result<Counted<'a>> {
+) -> anyhow::Result<Tally<D>> {
     let mut device = device;
     device.reset();
     let mut volume = mount(rt.alloc(), device)?;
@@ -199,7 +202,22 @@ fn measure_call<'a>(
     Ok(device)
 }
 
-// Measures each call on a clone of so many rows.
+// Measures each call on a clone of so many rows, and gives the device back.
+fn measure_on<D: Device + Drop>(
+    rt: &HostRuntime,
+    device: D,
+    rows: u32,
+    timed: bool,
+) -> anyhow::Result<Tally<D>> {
+    let device = fill(rt.alloc(), Tally::new(device), rows)?;
+    let (mut device, mounting) = measure_mount(rt, device, timed)?;
+    for call in [Call::Get, Call::At, Call::Put, Call::Clone] {
+        device = measure_call(rt, device, call, rows, mounting, timed)?;
+    }
+    Ok(device)
+}
+
+// Measures each call in memory, on a clone of so many rows.
 pub(crate) fn measure(rt: &HostRuntime, rows: u32, timed: bool) -> anyhow::Result<()> {
     let mut medium = Medium::new(rt.alloc())?;
     let Ok(memory) = Memory::open(
@@ -211,10 +229,6 @@ pub(crate) fn measure(rt: &HostRuntime, rows: u32, timed: bool) -> anyhow::Resul
         return Err(anyhow!("the slices are not a memory's"));
     };
     println!(rt; "{rows} rows:")?;
-    let device = fill(rt.alloc(), Tally::new(memory), rows)?;
-    let (mut device, mounting) = measure_mount(rt, device, timed)?;
-    for call in [Call::Get, Call::At, Call::Put, Call::Clone] {
-        device = measure_call(rt, device, call, rows, mounting, timed)?;
-    }
+    measure_on(rt, memory, rows, timed)?;
     Ok(())
 }
