@@ -1,11 +1,11 @@
 // Images of memories that a mount must refuse or take: volumes that are built here, most of them with something wrong.
 
-use crate::layout::{Blocks, check};
-use crate::program::{Answers, run};
+use crate::layout::{check, Blocks};
+use crate::program::{run, Answers};
 use crate::rng::Rng;
 use crate::script;
 use crate::tables::{Call, Tables};
-use crate::{Seen, hold, nothing_more};
+use crate::{hold, nothing_more, Seen};
 use std::fmt::Write;
 
 // A tree that is to be written: a leaf's rows, or an index block's children under their separators.
@@ -22,10 +22,14 @@ struct Builder<'a> {
     free: Vec<u32>,
 }
 
-// The sizes of the parts of n, each 7 to 15.
-fn parts(rng: &mut Rng, n: usize) -> Vec<usize> {
+// The sizes of the parts of n, each 7 to 15; as many parts as there can be where they are to be small.
+fn parts(rng: &mut Rng, n: usize, small: bool) -> Vec<usize> {
     let (fewest, most) = (n.div_ceil(15), n / 7);
-    let count = rng.range(fewest as u64, most as u64) as usize;
+    let count = if small {
+        most
+    } else {
+        rng.range(fewest as u64, most as u64) as usize
+    };
     let mut sizes = vec![7; count];
     let mut left = n - 7 * count;
     while left > 0 {
@@ -42,13 +46,18 @@ fn make_tree(rng: &mut Rng, rows: Vec<(u32, i32)>) -> (u32, Tree) {
     if rows.len() < 14 || (rows.len() < 16 && rng.once_in(2)) {
         return (1, Tree::Leaf(rows));
     }
+    let small = rng.once_in(2);
     // Each part under the least speed that it may have.
     let mut level: Vec<(u32, Tree)> = Vec::new();
     let mut from = 0;
     let mut last = 0;
-    for size in parts(rng, rows.len()) {
+    for size in parts(rng, rows.len(), small) {
         let part = rows[from..from + size].to_vec();
-        let low = if from == 0 { 0 } else { rng.range(last as u64 + 1, part[0].0 as u64) as u32 };
+        let low = if from == 0 {
+            0
+        } else {
+            rng.range(last as u64 + 1, part[0].0 as u64) as u32
+        };
         last = part[size - 1].0;
         from += size;
         level.push((low, Tree::Leaf(part)));
@@ -57,7 +66,7 @@ fn make_tree(rng: &mut Rng, rows: Vec<(u32, i32)>) -> (u32, Tree) {
     while level.len() > 15 || (level.len() >= 14 && rng.once_in(3)) {
         let mut above = Vec::new();
         let mut rest = level.into_iter();
-        for size in parts(rng, rest.len()) {
+        for size in parts(rng, rest.len(), small) {
             let part: Vec<(u32, Tree)> = rest.by_ref().take(size).collect();
             above.push((part[0].0, Tree::Index(height, part)));
         }
@@ -71,7 +80,10 @@ impl Builder<'_> {
     // Writes a tree to free blocks: its root.
     fn write(&mut self, tree: &Tree) -> Option<u32> {
         let entries: Vec<(u32, u32)> = match tree {
-            Tree::Leaf(rows) => rows.iter().map(|(s, a)| (*s, 0x4000_0000 + (*a + 9_000) as u32)).collect(),
+            Tree::Leaf(rows) => rows
+                .iter()
+                .map(|(s, a)| (*s, 0x4000_0000 + (*a + 9_000) as u32))
+                .collect(),
             Tree::Index(_, children) => {
                 let mut entries = Vec::new();
                 for (low, child) in children {
@@ -87,7 +99,9 @@ impl Builder<'_> {
         if self.free.is_empty() {
             return None;
         }
-        let block = self.free.swap_remove(self.rng.below(self.free.len() as u64) as usize);
+        let block = self
+            .free
+            .swap_remove(self.rng.below(self.free.len() as u64) as usize);
         let words = &mut self.blocks[block as usize];
         words.fill(0);
         words[0] = header + entries.len() as u32;
@@ -116,7 +130,9 @@ impl Builder<'_> {
         if self.free.is_empty() {
             return None;
         }
-        let block = self.free.swap_remove(self.rng.below(self.free.len() as u64) as usize);
+        let block = self
+            .free
+            .swap_remove(self.rng.below(self.free.len() as u64) as usize);
         self.blocks[block as usize] = words;
         Some(block)
     }
@@ -127,7 +143,7 @@ fn how_many(rng: &mut Rng, blocks: u64) -> usize {
     let most = match rng.below(4) {
         0 => 16,
         1 => 60,
-        _ => 4 * blocks,
+        _ => 9 * blocks,
     };
     rng.below(most.min(9_000)) as usize
 }
@@ -148,7 +164,11 @@ fn volume(rng: &mut Rng, count: u64, width: usize) -> Blocks {
         }
     }
     let generation = rng.pick(&[1, 2, 7, 1_000_000, 268_435_454, 268_435_455]);
-    let mut builder = Builder { blocks, free: (2..count as u32).collect(), rng };
+    let mut builder = Builder {
+        blocks,
+        free: (2..count as u32).collect(),
+        rng,
+    };
     let mut roots = vec![0u32; 24];
     for _ in 0..builder.rng.below(14) {
         let clone = builder.rng.below(24) as usize;
@@ -181,7 +201,11 @@ fn volume(rng: &mut Rng, count: u64, width: usize) -> Blocks {
     }
     let mut blocks = builder.blocks;
     write_slot(&mut blocks[(generation % 2) as usize], generation, &roots);
-    write_slot(&mut blocks[(1 - generation % 2) as usize], generation - 1, &before);
+    write_slot(
+        &mut blocks[(1 - generation % 2) as usize],
+        generation - 1,
+        &before,
+    );
     blocks
 }
 
@@ -193,7 +217,11 @@ fn kind(word: u32) -> u32 {
 fn some_block(rng: &mut Rng, blocks: &Blocks, kinds: &[u32]) -> Option<usize> {
     let like = |b: &usize| kinds.contains(&kind(blocks[*b][0])) && blocks[*b][1] == 0;
     let found: Vec<usize> = (2..blocks.len()).filter(like).collect();
-    if found.is_empty() { None } else { Some(rng.pick(&found)) }
+    if found.is_empty() {
+        None
+    } else {
+        Some(rng.pick(&found))
+    }
 }
 
 // Something goes wrong, or at least differs.
@@ -218,7 +246,18 @@ fn spoil(rng: &mut Rng, blocks: &mut Blocks) -> Option<()> {
             let b = some_block(rng, blocks, &[2])?;
             let n = (blocks[b][0] & 0xff).clamp(1, 15) as u64;
             let any = rng.below(count);
-            let child = rng.pick(&[0, 1, 2, count, count + 1, 4_096, 65_535, 65_536, 0x0fff_ffff, any]);
+            let child = rng.pick(&[
+                0,
+                1,
+                2,
+                count,
+                count + 1,
+                4_096,
+                65_535,
+                65_536,
+                0x0fff_ffff,
+                any,
+            ]);
             blocks[b][3 + 2 * rng.below(n) as usize] = 0x5000_0000 + child as u32;
         }
         // A child that another block has, of whatever level.
@@ -231,12 +270,17 @@ fn spoil(rng: &mut Rng, blocks: &mut Blocks) -> Option<()> {
         // A generation.
         7 => {
             let b = rng.below(2) as usize;
-            blocks[b][0] = (blocks[b][0] & 0xf000_0000) | (rng.pick(&[0, 1, 2, 3, 5, 0x0fff_fffe, 0x0fff_ffff]) & 0x0fff_ffff);
+            blocks[b][0] = (blocks[b][0] & 0xf000_0000)
+                | (rng.pick(&[0, 1, 2, 3, 5, 0x0fff_fffe, 0x0fff_ffff]) & 0x0fff_ffff);
         }
         8 => {
             let b = rng.below(2) as usize;
             let by = rng.pick(&[1, 2, 3, 4]);
-            blocks[b][0] = if rng.once_in(2) { blocks[b][0].wrapping_add(by) } else { blocks[b][0].wrapping_sub(by) };
+            blocks[b][0] = if rng.once_in(2) {
+                blocks[b][0].wrapping_add(by)
+            } else {
+                blocks[b][0].wrapping_sub(by)
+            };
         }
         // A height.
         9 => {
@@ -299,7 +343,14 @@ fn spoil(rng: &mut Rng, blocks: &mut Blocks) -> Option<()> {
         // A level.
         18 => {
             let b = some_block(rng, blocks, &[1, 2])?;
-            blocks[b][0] = rng.pick(&[0x1000_0000, 0x2000_0000, 0x2000_0100, 0x2000_0200, 0x2000_0400, 0x2000_0500]) + (blocks[b][0] & 0xff);
+            blocks[b][0] = rng.pick(&[
+                0x1000_0000,
+                0x2000_0000,
+                0x2000_0100,
+                0x2000_0200,
+                0x2000_0400,
+                0x2000_0500,
+            ]) + (blocks[b][0] & 0xff);
         }
         // A kind.
         19 => {
@@ -309,8 +360,16 @@ fn spoil(rng: &mut Rng, blocks: &mut Blocks) -> Option<()> {
         }
         // A word behind the entries or the roots, or the second of the block.
         20 => {
-            let b = if rng.once_in(3) { rng.below(2) as usize } else { some_block(rng, blocks, &[1, 2])? };
-            let i = if rng.once_in(3) { 1 } else { rng.range(25, width - 1) as usize };
+            let b = if rng.once_in(3) {
+                rng.below(2) as usize
+            } else {
+                some_block(rng, blocks, &[1, 2])?
+            };
+            let i = if rng.once_in(3) {
+                1
+            } else {
+                rng.range(25, width - 1) as usize
+            };
             blocks[b][i] = rng.pick(&[0, 1, 0x3000_0000, 0x8000_0000]);
         }
         // A slot in the other's block, or twice.
@@ -364,9 +423,15 @@ fn questions(rng: &mut Rng, tables: Tables) -> Vec<Call> {
 
 // Some images of one size, one after the other over the same memory.
 pub fn try_images(binary: &str, rng: &mut Rng, seen: &mut Seen) -> Result<(), String> {
-    let count = if rng.once_in(12) { rng.range(64, 2_000) } else { rng.range(16, 64) };
+    let count = if rng.once_in(8) {
+        rng.range(64, 2_400)
+    } else {
+        rng.range(16, 64)
+    };
     let width = rng.range(32, 40) as usize;
-    let images: Vec<Blocks> = (0..if count > 64 { 2 } else { 12 }).map(|_| image(rng, count, width)).collect();
+    let images: Vec<Blocks> = (0..if count > 64 { 2 } else { 12 })
+        .map(|_| image(rng, count, width))
+        .collect();
     let mut text = format!("memory {count} {width}\n");
     let mut plans = Vec::new();
     for blocks in &images {
@@ -375,9 +440,7 @@ pub fn try_images(binary: &str, rng: &mut Rng, seen: &mut Seen) -> Result<(), St
         text.push_str("raw 4294967295 0\nraw 0\nmount\n");
         let due = check(blocks);
         let calls = match &due {
-            Ok(found) => {
-                questions(rng, Tables::mounted(&found.maps, found.generation))
-            }
+            Ok(found) => questions(rng, Tables::mounted(&found.maps, found.generation)),
             Err(_) => vec![],
         };
         for call in &calls {
@@ -401,7 +464,11 @@ fn one_image(
     seen: &mut Seen,
 ) -> Result<(), String> {
     let lines = 1 + count as usize;
-    let made = ["ok"].iter().cycle().take(lines).chain(&["bad line", "bad line"]);
+    let made = ["ok"]
+        .iter()
+        .cycle()
+        .take(lines)
+        .chain(&["bad line", "bad line"]);
     for (i, due) in made.enumerate() {
         let got = answers.next().unwrap_or_default();
         if got != *due {
@@ -423,6 +490,9 @@ fn one_image(
                 return Err(format!("mount: {got}\ndue: ok"));
             }
             seen.mounted += 1;
+            for height in &found.heights {
+                seen.heights[*height as usize] += 1;
+            }
             let mut tables = Tables::mounted(&found.maps, found.generation);
             hold(&mut tables, calls, answers, seen)?;
             Ok(())

@@ -8,6 +8,8 @@ pub type Blocks = Vec<Vec<u32>>;
 pub struct Found {
     pub generation: u32,
     pub maps: Maps,
+    // How high its trees are.
+    pub heights: Vec<u32>,
 }
 
 // The refusal that is due, as it is printed.
@@ -23,16 +25,27 @@ pub fn check(blocks: &Blocks) -> Result<Found, String> {
         return Err(no_volume());
     };
     let mut maps: Maps = vec![None; 24];
+    let mut heights = Vec::new();
     for clone in 0..24 {
         if let Some((height, root)) = roots[clone] {
             let mut map = Map::new();
-            let due = Due { level: height - 1, low: 0, high: 10_000, root: true };
+            let due = Due {
+                level: height - 1,
+                low: 0,
+                high: 10_000,
+                root: true,
+            };
             walk(blocks, root, due, &mut map)
                 .map_err(|block| format!("refused 15 block {block} clone {clone}"))?;
             maps[clone] = Some(map);
+            heights.push(height);
         }
     }
-    Ok(Found { generation, maps })
+    Ok(Found {
+        generation,
+        maps,
+        heights,
+    })
 }
 
 fn kind(word: u32) -> u32 {
@@ -59,7 +72,10 @@ fn slot(blocks: &Blocks, block: usize) -> Option<(u32, Vec<Option<(u32, u32)>>)>
             continue;
         }
         let (height, root) = (payload(*word) / 65_536, payload(*word) % 65_536);
-        if kind(*word) != 7 || !(1..=5).contains(&height) || !(2..blocks.len() as u32).contains(&root) {
+        if kind(*word) != 7
+            || !(1..=5).contains(&height)
+            || !(2..blocks.len() as u32).contains(&root)
+        {
             return None;
         }
         roots.push(Some((height, root)));
@@ -105,7 +121,12 @@ fn walk(blocks: &Blocks, block: u32, due: Due, rows: &mut Map) -> Result<(), u32
             continue;
         }
         let high = speeds.get(i + 1).copied().unwrap_or(due.high);
-        let child = Due { level: due.level - 1, low: *speed, high, root: false };
+        let child = Due {
+            level: due.level - 1,
+            low: *speed,
+            high,
+            root: false,
+        };
         walk(blocks, *value, child, rows)?;
     }
     Ok(())
@@ -116,7 +137,9 @@ fn entries(words: &[u32], level: u32) -> Option<Vec<(u32, u32)>> {
     let header = words[0];
     let count = match level {
         0 if kind(header) == 1 => payload(header),
-        _ if level > 0 && kind(header) == 2 && payload(header) / 256 == level => payload(header) % 256,
+        _ if level > 0 && kind(header) == 2 && payload(header) / 256 == level => {
+            payload(header) % 256
+        }
         _ => return None,
     };
     if count > 15 || words[1] != 0 {

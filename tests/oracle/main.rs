@@ -23,13 +23,19 @@ pub struct Seen {
     twins: u64,
     images: u64,
     mounted: u64,
+    // The trees of mounted images, by their height.
+    heights: [u64; 6],
     refusals: BTreeMap<u32, u64>,
 }
 
 impl Seen {
     pub fn answer(&mut self, call: Call, answer: &str) {
         self.calls += 1;
-        if matches!(call, Call::CutOld | Call::CutNew | Call::CutTorn | Call::CutFinish(_)) && answer == "ok" {
+        if matches!(
+            call,
+            Call::CutOld | Call::CutNew | Call::CutTorn | Call::CutFinish(_)
+        ) && answer == "ok"
+        {
             self.cuts += 1;
         }
         self.refusal(answer);
@@ -45,8 +51,12 @@ impl Seen {
 
     fn print(&self) {
         println!(
-            "{} calls, {} cuts, {} lists with other angles, {} images, {} of them mounted",
+            "{} calls, {} cuts, {} lists made again with other angles, {} images, {} of them mounted",
             self.calls, self.cuts, self.twins, self.images, self.mounted
+        );
+        println!(
+            "trees of mounted images by height, 1 to 5: {:?}",
+            &self.heights[1..]
         );
         for (number, times) in &self.refusals {
             println!("refused {number}: {times}");
@@ -65,11 +75,18 @@ fn script_text(first: &str, calls: &[Call]) -> String {
 
 // A refusal for want of blocks or writes.
 fn is_late(answer: &str) -> bool {
-    ["refused 10", "refused 11"].iter().any(|late| answer.starts_with(late))
+    ["refused 10", "refused 11"]
+        .iter()
+        .any(|late| answer.starts_with(late))
 }
 
 // Holds each answer to the maps.
-pub fn hold(tables: &mut Tables, calls: &[Call], answers: &mut Answers<'_>, seen: &mut Seen) -> Result<Vec<String>, String> {
+pub fn hold(
+    tables: &mut Tables,
+    calls: &[Call],
+    answers: &mut Answers<'_>,
+    seen: &mut Seen,
+) -> Result<Vec<String>, String> {
     let mut given = Vec::new();
     for (i, call) in calls.iter().enumerate() {
         let Some(got) = answers.next() else {
@@ -104,17 +121,28 @@ fn pattern(answer: &str) -> String {
     if word != "rows" {
         return word.to_string();
     }
-    let speeds: Vec<&str> = lines.map(|row| row.split(' ').next().unwrap_or("")).collect();
+    let speeds: Vec<&str> = lines
+        .map(|row| row.split(' ').next().unwrap_or(""))
+        .collect();
     format!("{first} {}", speeds.join(" "))
 }
 
 // The device has no room even for a format.
 fn is_unformatted(first: &str) -> bool {
-    let numbers: Vec<u64> = first.split(' ').skip(1).map(|n| n.parse().unwrap()).collect();
+    let numbers: Vec<u64> = first
+        .split(' ')
+        .skip(1)
+        .map(|n| n.parse().unwrap())
+        .collect();
     numbers.get(2).is_some_and(|records| *records < 2)
 }
 
-fn run_script(binary: &str, first: &str, calls: &[Call], seen: &mut Seen) -> Result<Vec<String>, String> {
+fn run_script(
+    binary: &str,
+    first: &str,
+    calls: &[Call],
+    seen: &mut Seen,
+) -> Result<Vec<String>, String> {
     let output = program::run(binary, script_text(first, calls))?;
     let mut answers = Answers::new(&output);
     if is_unformatted(first) {
@@ -138,10 +166,14 @@ fn one_list(binary: &str, rng: &mut Rng, seen: &mut Seen) -> Result<(), String> 
     let given = run_script(binary, &script.first, &script.calls, seen)?;
     if rng.once_in(3) {
         let calls = script::other_angles(rng, &script.calls);
-        let others = run_script(binary, &script.first, &calls, seen).map_err(|e| format!("with other angles: {e}"))?;
+        let others = run_script(binary, &script.first, &calls, seen)
+            .map_err(|e| format!("with other angles: {e}"))?;
         for (i, (a, b)) in given.iter().zip(&others).enumerate() {
             if pattern(a) != pattern(b) {
-                return Err(format!("call {i}, {}: {a}\nwith other angles: {b}", calls[i]));
+                return Err(format!(
+                    "call {i}, {}: {a}\nwith other angles: {b}",
+                    calls[i]
+                ));
             }
         }
         seen.twins += 1;
@@ -180,7 +212,11 @@ fn first_lines(binary: &str, seen: &mut Seen) -> Result<(), String> {
 
 fn one_seed(binary: &str, seed: u64, seen: &mut Seen) -> Result<(), String> {
     let mut rng = Rng::new(seed);
-    if seed % 5 == 0 { image::try_images(binary, &mut rng, seen) } else { one_list(binary, &mut rng, seen) }
+    if seed % 5 == 0 {
+        image::try_images(binary, &mut rng, seen)
+    } else {
+        one_list(binary, &mut rng, seen)
+    }
 }
 
 // When to stop.
@@ -199,7 +235,7 @@ struct Options {
 const USAGE: &str = "usage: oracle REPLAY [--seed S] [--seconds T | --calls N]";
 
 // So many calls are made where nothing else is said.
-const CALLS: u64 = 400_000;
+const CALLS: u64 = 2_000_000;
 
 fn options() -> Option<Options> {
     let mut args = env::args().skip(1);
@@ -215,12 +251,25 @@ fn options() -> Option<Options> {
         }
     }
     // A seed alone is one list.
-    let limit = limit.unwrap_or(if seed.is_some() { Limit::Seeds(1) } else { Limit::Calls(CALLS) });
-    Some(Options { binary, seed: seed.unwrap_or(1), limit })
+    let limit = limit.unwrap_or(if seed.is_some() {
+        Limit::Seeds(1)
+    } else {
+        Limit::Calls(CALLS)
+    });
+    Some(Options {
+        binary,
+        seed: seed.unwrap_or(1),
+        limit,
+    })
 }
 
 fn main() -> ExitCode {
-    let Some(Options { binary, seed, limit }) = options() else {
+    let Some(Options {
+        binary,
+        seed,
+        limit,
+    }) = options()
+    else {
         eprintln!("{USAGE}");
         return ExitCode::from(2);
     };

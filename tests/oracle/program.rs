@@ -31,7 +31,9 @@ pub struct Answers<'a> {
 
 impl<'a> Answers<'a> {
     pub fn new(output: &'a str) -> Answers<'a> {
-        Answers { lines: output.lines() }
+        Answers {
+            lines: output.lines(),
+        }
     }
 
     pub fn next(&mut self) -> Option<String> {

@@ -25,17 +25,77 @@ struct Weights {
 
 const PHASES: [Weights; 6] = [
     // Everything.
-    Weights { create: 6, clone: 6, delete: 3, put: 40, remove: 15, read: 25, seal: 4, odd: 3, cut: 1 },
+    Weights {
+        create: 6,
+        clone: 6,
+        delete: 3,
+        put: 40,
+        remove: 15,
+        read: 25,
+        seal: 4,
+        odd: 3,
+        cut: 1,
+    },
     // Filling.
-    Weights { create: 1, clone: 1, delete: 0, put: 90, remove: 2, read: 5, seal: 1, odd: 0, cut: 0 },
+    Weights {
+        create: 1,
+        clone: 1,
+        delete: 0,
+        put: 90,
+        remove: 2,
+        read: 5,
+        seal: 1,
+        odd: 0,
+        cut: 0,
+    },
     // Clearing.
-    Weights { create: 0, clone: 1, delete: 1, put: 5, remove: 80, read: 10, seal: 1, odd: 0, cut: 0 },
+    Weights {
+        create: 0,
+        clone: 1,
+        delete: 1,
+        put: 5,
+        remove: 80,
+        read: 10,
+        seal: 1,
+        odd: 0,
+        cut: 0,
+    },
     // Copying.
-    Weights { create: 10, clone: 40, delete: 15, put: 20, remove: 5, read: 8, seal: 2, odd: 0, cut: 0 },
+    Weights {
+        create: 10,
+        clone: 40,
+        delete: 15,
+        put: 20,
+        remove: 5,
+        read: 8,
+        seal: 2,
+        odd: 0,
+        cut: 0,
+    },
     // Committing, and losing power.
-    Weights { create: 3, clone: 3, delete: 2, put: 20, remove: 8, read: 10, seal: 30, odd: 5, cut: 15 },
+    Weights {
+        create: 3,
+        clone: 3,
+        delete: 2,
+        put: 20,
+        remove: 8,
+        read: 10,
+        seal: 30,
+        odd: 5,
+        cut: 15,
+    },
     // Reading.
-    Weights { create: 1, clone: 1, delete: 1, put: 5, remove: 2, read: 80, seal: 1, odd: 2, cut: 0 },
+    Weights {
+        create: 1,
+        clone: 1,
+        delete: 1,
+        put: 5,
+        remove: 2,
+        read: 80,
+        seal: 1,
+        odd: 2,
+        cut: 0,
+    },
 ];
 
 // Where the speeds of puts come from.
@@ -90,7 +150,11 @@ impl Maker<'_> {
             return self.favourite;
         }
         let there: Vec<u32> = (0..24).filter(there).collect();
-        if there.is_empty() { rng.below(24) as u32 } else { rng.pick(&there) }
+        if there.is_empty() {
+            rng.below(24) as u32
+        } else {
+            rng.pick(&there)
+        }
     }
 
     // A clone number: mostly one that is not there.
@@ -102,8 +166,14 @@ impl Maker<'_> {
         if rng.once_in(8) {
             return rng.below(24) as u32;
         }
-        let absent: Vec<u32> = (0..24).filter(|n| self.tables.working[*n as usize].is_none()).collect();
-        if absent.is_empty() { rng.below(24) as u32 } else { rng.pick(&absent) }
+        let absent: Vec<u32> = (0..24)
+            .filter(|n| self.tables.working[*n as usize].is_none())
+            .collect();
+        if absent.is_empty() {
+            rng.below(24) as u32
+        } else {
+            rng.pick(&absent)
+        }
     }
 
     fn new_speed(&mut self) -> u32 {
@@ -114,11 +184,19 @@ impl Maker<'_> {
             Speeds::Any => self.rng.below(10_000) as u32,
             Speeds::Few(n) => (self.rng.below(n) * 9_999 / n) as u32,
             Speeds::Up(s) => {
-                self.speeds = Speeds::Up(if s >= 9_999 { 0 } else { s + 1 + self.rng.below(3) as u32 });
+                self.speeds = Speeds::Up(if s >= 9_999 {
+                    0
+                } else {
+                    s + 1 + self.rng.below(3) as u32
+                });
                 s.min(9_999)
             }
             Speeds::Down(s) => {
-                self.speeds = Speeds::Down(if s < 3 { 9_999 } else { s - 1 - self.rng.below(3) as u32 });
+                self.speeds = Speeds::Down(if s < 3 {
+                    9_999
+                } else {
+                    s - 1 - self.rng.below(3) as u32
+                });
                 s
             }
         }
@@ -151,7 +229,11 @@ impl Maker<'_> {
             5..=9 => Call::At(n, s),
             10 | 11 => {
                 let k = self.rng.pick(&[0, 1, 7, 20, 10_000, u32::MAX]);
-                Call::List(n, s, k.min(if self.rng.once_in(10) { u32::MAX } else { 30 }))
+                Call::List(
+                    n,
+                    s,
+                    k.min(if self.rng.once_in(10) { u32::MAX } else { 30 }),
+                )
             }
             12 => Call::Count(n),
             13 => Call::Span(n),
@@ -178,7 +260,8 @@ impl Maker<'_> {
         if self.rng.once_in(3) && self.tables.working.iter().all(Option::is_none) {
             return Call::Create(self.vacant());
         }
-        let all = w.create + w.clone + w.delete + w.put + w.remove + w.read + w.seal + w.odd + w.cut;
+        let all =
+            w.create + w.clone + w.delete + w.put + w.remove + w.read + w.seal + w.odd + w.cut;
         let mut at = self.rng.below(all);
         let mut is = |weight: u64| {
             let here = at < weight;
@@ -193,8 +276,16 @@ impl Maker<'_> {
             Call::Delete(self.clone())
         } else if is(w.put) {
             let n = self.clone();
-            let s = if self.rng.once_in(5) { self.speed(n) } else { self.new_speed() };
-            let a = if self.rng.once_in(60) { self.rng.pick(&WRONG_ANGLES) } else { self.rng.angle() };
+            let s = if self.rng.once_in(5) {
+                self.speed(n)
+            } else {
+                self.new_speed()
+            };
+            let a = if self.rng.once_in(60) {
+                self.rng.pick(&WRONG_ANGLES)
+            } else {
+                self.rng.angle()
+            };
             Call::Put(n, s, a)
         } else if is(w.remove) {
             let n = self.clone();
@@ -267,7 +358,12 @@ fn speeds(rng: &mut Rng) -> Speeds {
 
 // A list of calls on what the tables hold.
 pub fn calls(rng: &mut Rng, tables: Tables, length: u64) -> Vec<Call> {
-    let mut maker = Maker { tables, speeds: Speeds::Any, favourite: 0, rng };
+    let mut maker = Maker {
+        tables,
+        speeds: Speeds::Any,
+        favourite: 0,
+        rng,
+    };
     let mut calls = Vec::new();
     while (calls.len() as u64) < length {
         let weights = maker.rng.pick(&PHASES);
@@ -297,10 +393,17 @@ fn make_tall(rng: &mut Rng) -> Script {
         tables.answer(*call, None);
     }
     let width = rng.range(32, 40);
-    let devices = if rng.once_in(2) { format!("memory 4096 {width}") } else { format!("mirror 4096 {width} 150000") };
+    let devices = if rng.once_in(2) {
+        format!("memory 4096 {width}")
+    } else {
+        format!("mirror 4096 {width} 150000")
+    };
     let length = rng.range(200, 4_000);
     first.append(&mut calls(rng, tables, length));
-    Script { first: devices, calls: first }
+    Script {
+        first: devices,
+        calls: first,
+    }
 }
 
 pub fn make(rng: &mut Rng) -> Script {
@@ -313,7 +416,10 @@ pub fn make(rng: &mut Rng) -> Script {
         4..=6 => rng.range(200, 3_000),
         _ => rng.range(3_000, 12_000),
     };
-    Script { first: devices(rng, crowded), calls: calls(rng, Tables::new(), length) }
+    Script {
+        first: devices(rng, crowded),
+        calls: calls(rng, Tables::new(), length),
+    }
 }
 
 // The same calls with other angles where the angles are legal.

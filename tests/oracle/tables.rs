@@ -235,7 +235,9 @@ impl Tables {
     fn early(&self, call: Call) -> Option<u32> {
         let numbers: &[u32] = match &call {
             Call::Clone(n, m) => &[*n, *m],
-            Call::Create(n) | Call::Delete(n) | Call::Count(n) | Call::Span(n) | Call::Sum(n) => &[*n],
+            Call::Create(n) | Call::Delete(n) | Call::Count(n) | Call::Span(n) | Call::Sum(n) => {
+                &[*n]
+            }
             Call::Put(n, _, _) | Call::Remove(n, _) | Call::Get(n, _) | Call::At(n, _) => &[*n],
             Call::List(n, _, _) => &[*n],
             _ => return None,
@@ -244,7 +246,11 @@ impl Tables {
             return Some(5);
         }
         match call {
-            Call::Put(_, s, _) | Call::Remove(_, s) | Call::Get(_, s) | Call::At(_, s) | Call::List(_, s, _)
+            Call::Put(_, s, _)
+            | Call::Remove(_, s)
+            | Call::Get(_, s)
+            | Call::At(_, s)
+            | Call::List(_, s, _)
                 if s > 9_999 =>
             {
                 return Some(6);
