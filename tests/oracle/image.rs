@@ -42,11 +42,11 @@ fn parts(rng: &mut Rng, n: usize, small: bool) -> Vec<usize> {
     sizes
 }
 
-fn make_tree(rng: &mut Rng, rows: Vec<(u32, i32)>) -> (u32, Tree) {
+// A tree of some rows, with as many blocks as there can be where they are to be small.
+fn make_tree(rng: &mut Rng, rows: Vec<(u32, i32)>, small: bool) -> (u32, Tree) {
     if rows.len() < 14 || (rows.len() < 16 && rng.once_in(2)) {
         return (1, Tree::Leaf(rows));
     }
-    let small = rng.once_in(2);
     // Each part under the least speed that it may have.
     let mut level: Vec<(u32, Tree)> = Vec::new();
     let mut from = 0;
@@ -170,6 +170,8 @@ fn volume(rng: &mut Rng, count: u64, width: usize) -> Blocks {
         rng,
     };
     let mut roots = vec![0u32; 24];
+    // The first tree of a large volume may be as high as a tree gets.
+    let mut tall = count >= 1_200 && builder.rng.once_in(2);
     for _ in 0..builder.rng.below(14) {
         let clone = builder.rng.below(24) as usize;
         let there: Vec<u32> = roots.iter().copied().filter(|root| *root != 0).collect();
@@ -183,10 +185,17 @@ fn volume(rng: &mut Rng, count: u64, width: usize) -> Blocks {
             }
             _ => {
                 let mut rows = crate::tables::Map::new();
-                for _ in 0..how_many(builder.rng, count) {
+                let rows_drawn = if tall {
+                    9_000
+                } else {
+                    how_many(builder.rng, count)
+                };
+                for _ in 0..rows_drawn {
                     rows.insert(builder.rng.below(10_000) as u32, builder.rng.angle());
                 }
-                let (height, tree) = make_tree(builder.rng, rows.into_iter().collect());
+                let small = tall || builder.rng.once_in(2);
+                let (height, tree) = make_tree(builder.rng, rows.into_iter().collect(), small);
+                tall = false;
                 let block = builder.write(&tree);
                 block.map(|block| 0x7000_0000 + height * 65_536 + block)
             }
