@@ -1,4 +1,7 @@
 // The lines of a script. docs/oracle.md lists them.
+ghost use Rattle.std.specs.Prelude.{◌≡◌, ◌==◌, ◌+◌, ◌<◌, ◌^◌, [], take, drop, length, position, IfSome, MatchOption, SomeIff};
+ghost use Rattle.std.specs.Str.Parse.{IsNumeral, digits_value, without_leading_plus};
+
 use history::{Ask, Call};
 use std::alloc::{AllocError, Global};
 
@@ -63,15 +66,31 @@ pub(crate) enum Line {
     Raw(Patch),
 }
 
+// Where the first line ends.
+fn line_end(text: &[u8]) -> Option<usize>
+    ensures place { result ≡ position (λ b. b == 10) text.now }
+    ensures within { IfSome result (λ k. k < length text.now) }
+{
+    text.iter().position(|byte| *byte == b'\n')
+}
+
 // The first line, and what comes after its line break.
-pub(crate) fn split_line(text: &[u8]) -> (&[u8], &[u8]) {
-    match text.iter().position(|byte| *byte == b'\n') {
+pub(crate) fn split_line(text: &[u8]) -> (&[u8], &[u8])
+    ensures { MatchOption (position (λ b. b == 10) text.now)
+        ((result.0.now ≡ text.now) × (result.1.now ≡ []))
+        (λ k. (result.0.now ≡ take k text.now) × (result.1.now ≡ drop (k + 1) text.now)) }
+{
+    match line_end(text) {
         Some(end) => (&text[..end], &text[end + 1..]),
         None => (text, &[]),
     }
 }
 
-fn number(token: &str) -> Option<u32> {
+fn number(token: &str) -> Option<u32>
+    ensures { SomeIff result
+        (IsNumeral 10 (without_leading_plus token.now) × (digits_value 10 (without_leading_plus token.now) < 2 ^ 32))
+        (digits_value 10 (without_leading_plus token.now)) }
+{
     token.parse().ok()
 }
 
