@@ -502,7 +502,7 @@ fn one_image(
             for height in &found.heights {
                 seen.heights[*height as usize] += 1;
             }
-            let mut tables = Tables::mounted(&found.maps, found.generation);
+            let mut tables = Tables::mounted(&found.maps, found.generation).on(count, None);
             hold(&mut tables, calls, answers, seen)?;
             Ok(())
         }

@@ -9,6 +9,7 @@ mod tables;
 
 use program::Answers;
 use rng::Rng;
+use script::Devices;
 use std::collections::BTreeMap;
 use std::env;
 use std::process::ExitCode;
@@ -64,8 +65,8 @@ impl Seen {
     }
 }
 
-fn script_text(first: &str, calls: &[Call]) -> String {
-    let mut text = format!("{first}\n");
+fn script_text(devices: Devices, calls: &[Call]) -> String {
+    let mut text = format!("{devices}\n");
     for call in calls {
         text.push_str(&call.to_string());
         text.push('\n');
@@ -127,35 +128,16 @@ fn pattern(answer: &str) -> String {
     format!("{first} {}", speeds.join(" "))
 }
 
-// The device has no room even for a format.
-fn is_unformatted(first: &str) -> bool {
-    let numbers: Vec<u64> = first
-        .split(' ')
-        .skip(1)
-        .map(|n| n.parse().unwrap())
-        .collect();
-    numbers.get(2).is_some_and(|records| *records < 2)
-}
-
 fn run_script(
     binary: &str,
-    first: &str,
+    devices: Devices,
     calls: &[Call],
     seen: &mut Seen,
 ) -> Result<Vec<String>, String> {
-    let output = program::run(binary, script_text(first, calls))?;
+    let output = program::run(binary, script_text(devices, calls))?;
     let mut answers = Answers::new(&output);
-    if is_unformatted(first) {
-        let due = "refused 11 layer 2 depth 2";
-        let got = answers.next().unwrap_or_default();
-        if got != due {
-            return Err(format!("{first}: {got}\ndue: {due}"));
-        }
-        seen.refusal(due);
-        nothing_more(&mut answers)?;
-        return Ok(vec![]);
-    }
-    let given = hold(&mut Tables::new(), calls, &mut answers, seen)?;
+    let mut tables = Tables::new().on(devices.blocks, devices.records);
+    let given = hold(&mut tables, calls, &mut answers, seen)?;
     nothing_more(&mut answers)?;
     Ok(given)
 }
@@ -163,10 +145,10 @@ fn run_script(
 // A list of calls, and the same with other angles.
 fn one_list(binary: &str, rng: &mut Rng, seen: &mut Seen) -> Result<(), String> {
     let script = script::make(rng);
-    let given = run_script(binary, &script.first, &script.calls, seen)?;
+    let given = run_script(binary, script.devices, &script.calls, seen)?;
     if rng.once_in(3) {
         let calls = script::other_angles(rng, &script.calls);
-        let others = run_script(binary, &script.first, &calls, seen)
+        let others = run_script(binary, script.devices, &calls, seen)
             .map_err(|e| format!("with other angles: {e}"))?;
         for (i, (a, b)) in given.iter().zip(&others).enumerate() {
             if pattern(a) != pattern(b) {

@@ -2,9 +2,32 @@
 
 use crate::rng::Rng;
 use crate::tables::{Call, Mode, Tables};
+use std::fmt;
+
+// The devices that a first line names: a memory, or a mirror with a log of so many records.
+#[derive(Clone, Copy)]
+pub struct Devices {
+    pub blocks: u64,
+    pub width: u64,
+    pub records: Option<u64>,
+}
+
+impl fmt::Display for Devices {
+    fn fmt(&self, f: &mut fmt::Formatter<'_>) -> fmt::Result {
+        let Devices {
+            blocks,
+            width,
+            records,
+        } = self;
+        match records {
+            None => write!(f, "memory {blocks} {width}"),
+            Some(records) => write!(f, "mirror {blocks} {width} {records}"),
+        }
+    }
+}
 
 pub struct Script {
-    pub first: String,
+    pub devices: Devices,
     pub calls: Vec<Call>,
 }
 
@@ -328,22 +351,24 @@ impl Maker<'_> {
 }
 
 // The devices: crowded or large, with a log that is worn soon or late.
-fn devices(rng: &mut Rng, crowded: bool) -> String {
+fn devices(rng: &mut Rng, crowded: bool) -> Devices {
     let blocks = match (crowded, rng.below(3)) {
         (true, _) => rng.range(16, 64),
         (false, 0) => rng.range(64, 512),
         (false, _) => rng.range(512, 4_096),
     };
     let width = rng.range(32, 40);
-    if rng.once_in(2) {
-        return format!("memory {blocks} {width}");
-    }
-    let records = match rng.below(3) {
-        0 => rng.range(2, 60),
-        1 => rng.range(60, 1_500),
-        _ => rng.range(3_000, 30_000),
+    let records = match rng.below(6) {
+        0 => Some(rng.range(2, 60)),
+        1 => Some(rng.range(60, 1_500)),
+        2 => Some(rng.range(3_000, 30_000)),
+        _ => None,
     };
-    format!("mirror {blocks} {width} {records}")
+    Devices {
+        blocks,
+        width,
+        records,
+    }
 }
 
 fn speeds(rng: &mut Rng) -> Speeds {
@@ -392,16 +417,15 @@ fn make_tall(rng: &mut Rng) -> Script {
     for call in &first {
         tables.answer(*call, None);
     }
-    let width = rng.range(32, 40);
-    let devices = if rng.once_in(2) {
-        format!("memory 4096 {width}")
-    } else {
-        format!("mirror 4096 {width} 150000")
+    let devices = Devices {
+        blocks: 4_096,
+        width: rng.range(32, 40),
+        records: if rng.once_in(2) { Some(150_000) } else { None },
     };
     let length = rng.range(200, 4_000);
     first.append(&mut calls(rng, tables, length));
     Script {
-        first: devices,
+        devices,
         calls: first,
     }
 }
@@ -417,7 +441,7 @@ pub fn make(rng: &mut Rng) -> Script {
         _ => rng.range(3_000, 12_000),
     };
     Script {
-        first: devices(rng, crowded),
+        devices: devices(rng, crowded),
         calls: calls(rng, Tables::new(), length),
     }
 }

@@ -113,7 +113,21 @@ pub struct Tables {
     pub mode: Mode,
     // The generation that was committed last.
     pub generation: u32,
+    pub room: Room,
 }
+
+// What there is of blocks and writes, as far as maps can tell.
+#[derive(Clone, Copy, Default)]
+pub struct Room {
+    pub blocks: u64,
+    // The records of a log.
+    pub records: Option<u64>,
+    // So many records were written at most.
+    pub written: u64,
+}
+
+// A call needs no more blocks, and makes no more writes.
+const NEEDED: u64 = 11;
 
 // The last generation.
 const LAST: u32 = 268_435_455;
@@ -145,6 +159,7 @@ impl Tables {
             committed: vec![None; 24],
             mode: Mode::Mounted,
             generation: 1,
+            room: Room::default(),
         }
     }
 
@@ -155,10 +170,38 @@ impl Tables {
             committed: maps.clone(),
             mode: Mode::Mounted,
             generation,
+            room: Room::default(),
+        }
+    }
+
+    // Tables on so many blocks and, where there is a log, records, of which the format took two.
+    pub fn on(self, blocks: u64, records: Option<u64>) -> Tables {
+        Tables {
+            room: Room {
+                blocks,
+                records,
+                written: 2,
+            },
+            ..self
+        }
+    }
+
+    // May blocks or writes be wanting? A map of r rows takes at most 1 + r / 6 blocks, since no block but the uppermost has fewer
+    // than 7 entries.
+    fn may_lack(&self, text: &str) -> bool {
+        if text == "refused 10" {
+            let maps = self.working.iter().chain(&self.committed).flatten();
+            let taken: u64 = maps.map(|map| 1 + map.len() as u64 / 6).sum();
+            return self.room.blocks < 2 + taken + NEEDED;
+        }
+        match self.room.records {
+            Some(records) => records < self.room.written + NEEDED,
+            None => false,
         }
     }
 
     fn commit(&mut self) {
+        self.room.written += 1;
         self.committed = self.working.clone();
         self.generation += 1;
     }
@@ -224,7 +267,7 @@ impl Tables {
             }
         }
         if let Some(text) = late {
-            if may_come(call, text) {
+            if may_come(call, text) && self.may_lack(text) {
                 return Answer::Refused(text.to_string());
             }
         }
@@ -274,6 +317,9 @@ impl Tables {
     }
 
     fn done(&mut self, call: Call) -> Answer {
+        if let Call::Create(_) | Call::Put(..) | Call::Remove(..) = call {
+            self.room.written += NEEDED;
+        }
         match call {
             Call::Create(n) => {
                 self.working[n as usize] = Some(Map::new());
