@@ -32,7 +32,7 @@ call_of k Finish = plain.Call.finish
 call_of k Reopen = plain.Call.reopen
 call_of k Mount = plain.Call.mount
 
--- how many pairs of the slice the answer shows
+-- how many pairs of the slice the answer is about
 abbrev pub shown : {S E : Type 0} → Result (Answer S) E → ℕ
 shown (Ok Done) = 0
 shown (Ok (Angle o)) = 0

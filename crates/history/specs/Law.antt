@@ -2,29 +2,24 @@
 use Rattle.std.specs.Prelude.{◌≡◌, ℕ, List, [], ◌∷◌, ◌++◌, map}
 use Rattle.device.specs.Meaning.{Meaning}
 use Rattle.device.specs.Cuts.{Op, Cutting}
-use Rattle.model.specs.Plain.{Map, Call, Answer, start}
+use Rattle.model.specs.Plain.{Map, Call, Answer}
 use Rattle.model.specs.World.{Mode, Mode.mounted, Event, Event.did, Event.broke, Run, Step, Formatted, bare}
-use Rattle.model.specs.Right.{Right, Ends}
+use Rattle.model.specs.Right.{Onward, Ends}
 use Rattle.model.specs.TwoRuns.{Twin, first, second, legal, Every, Agree, clear}
 
 module _ (V : Type 0) (join : ℕ → Map → V) (w : Mode) (m : Meaning) (e : Event V) where
-  -- one run: every answer of the history and this event's is that of the plain tables
-  abbrev pub OneRun : Type 0
-  OneRun =
-      (d : Meaning) (es : List (Event V)) → Formatted d → Run V join (mounted bare) d es → Ends (mounted bare) d es w m
-      → Right V join start (mounted bare) d (es ++ e ∷ [])
-
   -- two runs: if this history and another are alike but for angles, and so is what comes next, they agree in all but what touched clones show
-  abbrev pub TwoRuns : Type 0
-  TwoRuns =
+  abbrev pub OnwardBoth : Type 0
+  OnwardBoth =
       (d : Meaning) (ts : List (Twin V)) (t : Twin V) (w₂ : Mode) (m₂ : Meaning)
       → Formatted d → Every legal ts → legal t → first t ≡ e
       → Run V join (mounted bare) d (map first ts) → Ends (mounted bare) d (map first ts) w m
       → Run V join (mounted bare) d (map second ts) → Ends (mounted bare) d (map second ts) w₂ m₂ → Run V join w₂ m₂ (second t ∷ [])
       → Agree V clear d (ts ++ t ∷ [])
 
+  -- for one run and for two
   abbrev pub Law : Type 0
-  Law = OneRun × TwoRuns
+  Law = Onward V join w m e × OnwardBoth
 
 -- The call is a step of the volume, and the law holds with it after every history that ends in s; and it would hold had the power
 -- failed before or after any of its device calls.

@@ -1,6 +1,7 @@
 // What a machine is asked, and what it answers.
 
 use model::Refusal;
+use thiserror::Error;
 
 // What a mounted volume is asked.
 #[derive(Clone, Copy, PartialEq, Eq, Debug)]
@@ -38,12 +39,15 @@ pub enum Answer<S> {
 }
 
 // Why a call changed nothing.
-#[derive(Clone, Copy, PartialEq, Eq, Debug)]
+#[derive(Clone, Copy, PartialEq, Eq, Debug, Drop, Error)]
 pub enum Denied {
     // The machine is not in the state that the call is for.
+    #[error("out of turn")]
     OutOfTurn,
     // There is no memory for the counts of the volume to be mounted.
+    #[error("no memory")]
     NoMemory,
     // The volume refuses, or the device holds none.
+    #[error("{0}")]
     Refused(Refusal),
 }

@@ -1,5 +1,5 @@
 // A volume and its device, in the state in which the last call or cut left them.
-ghost use Rattle.std.specs.Prelude.{◌≡◌, ℕ, List, length, drop, MatchResult};
+ghost use Rattle.std.specs.Prelude.{◌≡◌, ◌≤◌, ℕ, List, length, drop, MatchResult};
 ghost use Rattle.table.specs.declared.pair.Pair.{Pair};
 ghost use Rattle.model.specs.Plain.{Call.ask};
 ghost use Rattle.model.specs.World.{Mode.mounted, Mode.sealed, Mode.down, Formatted, bare};
@@ -35,6 +35,7 @@ fn ask<D: Device, S: Summary>(
 ) -> Result<Answer<S>, Refusal>
     ensures step { Stepped S (summed S.none S.joined S.value_of) (mounted volume.old.0, volume.old.1) (ask (ask_of (length out.old) call)) (answer_of out.new result) (mounted volume.new.0, volume.new.1) }
     ensures rest { drop (shown result) out.new ≡ drop (shown result) out.old }
+    ensures fits { shown result ≤ length out.new }
 {
     match call {
         Ask::Create { clone } => {
@@ -73,6 +74,7 @@ fn while_mounted<D: Device, S: Summary>(
 ) -> (Machine<D>, Result<Answer<S>, Denied>)
     ensures step { Outcome (Stepped S (summed S.none S.joined S.value_of)) out.new (mounted volume.0, volume.1) (call_of (length out.old) call) result.1 (state_of D.Device.meaning result.0) }
     ensures rest { drop (shown result.1) out.new ≡ drop (shown result.1) out.old }
+    ensures fits { shown result.1 ≤ length out.new }
 {
     let mut volume = volume;
     match call {
@@ -97,7 +99,8 @@ fn while_sealed<D: Device, S: Summary>(
     volume: Sealed<D>,
     call: Call,
 ) -> (Machine<D>, Result<Answer<S>, Denied>)
-    ensures { (k : ℕ) (out : List Pair) → Outcome (Stepped S (summed S.none S.joined S.value_of)) out (sealed volume.0, volume.1) (call_of k call) result.1 (state_of D.Device.meaning result.0) }
+    ensures step { (k : ℕ) (out : List Pair) → Outcome (Stepped S (summed S.none S.joined S.value_of)) out (sealed volume.0, volume.1) (call_of k call) result.1 (state_of D.Device.meaning result.0) }
+    ensures none { shown result.1 ≡ 0 }
 {
     match call {
         Call::Finish => (Machine::Mounted(volume.finish()), Ok(Answer::Done)),
@@ -109,13 +112,14 @@ fn while_sealed<D: Device, S: Summary>(
     }
 }
 
-// A call of a machine whose power was cut.
+// A call of a machine that is down.
 fn while_down<D: Device, S: Summary>(
     heap: Global,
     device: D,
     call: Call,
 ) -> (Machine<D>, Result<Answer<S>, Denied>)
-    ensures { (k : ℕ) (out : List Pair) → Outcome (Stepped S (summed S.none S.joined S.value_of)) out (down, D.Device.meaning device) (call_of k call) result.1 (state_of D.Device.meaning result.0) }
+    ensures step { (k : ℕ) (out : List Pair) → Outcome (Stepped S (summed S.none S.joined S.value_of)) out (down, D.Device.meaning device) (call_of k call) result.1 (state_of D.Device.meaning result.0) }
+    ensures none { shown result.1 ≡ 0 }
 {
     match call {
         Call::Mount => match Volume::mount(heap, device) {
@@ -138,6 +142,7 @@ fn step<D: Device, S: Summary>(
 ) -> (Machine<D>, Result<Answer<S>, Denied>)
     ensures step { Outcome (Stepped S (summed S.none S.joined S.value_of)) out.new (state_of D.Device.meaning machine) (call_of (length out.old) call) result.1 (state_of D.Device.meaning result.0) }
     ensures rest { drop (shown result.1) out.new ≡ drop (shown result.1) out.old }
+    ensures fits { shown result.1 ≤ length out.new }
 {
     match machine {
         Machine::Mounted(volume) => while_mounted(volume, call, out),
@@ -155,6 +160,7 @@ pub fn perform<D: Device, S: Summary>(
 ) -> (Machine<D>, Result<Answer<S>, Denied>)
     ensures law { Outcome (Lawful S (summed S.none S.joined S.value_of)) out.new (state_of D.Device.meaning machine) (call_of (length out.old) call) result.1 (state_of D.Device.meaning result.0) }
     ensures rest { drop (shown result.1) out.new ≡ drop (shown result.1) out.old }
+    ensures fits { shown result.1 ≤ length out.new }
 {
     step(machine, heap, call, out)
 }

@@ -1,5 +1,4 @@
-use super::call::{Ask, Call, Denied};
-use std::error::Error;
+use super::call::{Ask, Call};
 use std::fmt;
 
 impl fmt::Display for Ask {
@@ -33,15 +32,3 @@ impl fmt::Display for Call {
         }
     }
 }
-
-impl fmt::Display for Denied {
-    fn fmt<W: fmt::Write>(&self, f: &mut fmt::Formatter<W>) -> fmt::Result {
-        match self {
-            Denied::OutOfTurn => write!(f, "out of turn"),
-            Denied::NoMemory => write!(f, "no memory"),
-            Denied::Refused(refusal) => write!(f, "{refusal}"),
-        }
-    }
-}
-
-impl Error for Denied {}
