@@ -1,4 +1,4 @@
-// The pile that the task runs on, over words that outlast it.
+// The pile that the planner's volume is on, over words that outlast it.
 use anyhow::anyhow;
 use check_layer::Check;
 use log_device::Log;
