@@ -214,7 +214,7 @@ struct Options {
     limit: Limit,
 }
 
-const USAGE: &str = "usage: oracle REPLAY [--seed S] [--seconds T | --calls N]";
+const USAGE: &str = "usage: oracle REPLAY [--first SEED] [--seconds T | --calls N]";
 
 // So many calls are made where nothing else is said.
 const CALLS: u64 = 2_000_000;
@@ -226,7 +226,7 @@ fn options() -> Option<Options> {
     while let Some(arg) = args.next() {
         let number: u64 = args.next()?.parse().ok()?;
         match arg.as_str() {
-            "--seed" => seed = Some(number),
+            "--first" => seed = Some(number),
             "--calls" => limit = Some(Limit::Calls(number)),
             "--seconds" => limit = Some(Limit::Time(Duration::from_secs(number))),
             _ => return None,
@@ -272,7 +272,7 @@ fn main() -> ExitCode {
         }
         let seed = seed.wrapping_add(done);
         if let Err(difference) = one_seed(&binary, seed, &mut seen) {
-            println!("{difference}\nseed {seed}: run it alone by --seed {seed}");
+            println!("{difference}\nseed {seed}: run it alone by --first {seed}");
             return ExitCode::FAILURE;
         }
     }
