@@ -4,9 +4,10 @@ use Rattle.std.proofs.lemmas.List.{map-append}
 use Rattle.device.specs.Meaning.{Meaning}
 use Rattle.device.specs.Cuts.{cut, replay}
 use Rattle.model.specs.Plain.{Map, Call, Answer}
+use Rattle.model.specs.TreeBlocks.{Each}
 use Rattle.model.specs.World.{Mode, Mode.mounted, Mode.down, Event, Event.did, Event.broke, Event.lost, Run, bare}
 use Rattle.model.specs.Right.{Ends}
-use Rattle.model.specs.TwoRuns.{first, second, legal, Every}
+use Rattle.model.specs.TwoRuns.{first, second, legal}
 use Rattle.model.proofs.Right.{histories}
 use Rattle.table.specs.declared.pair.Pair.{Pair}
 use Rattle.history.specs.declared.call.Answer.{Answer as Given}
@@ -16,9 +17,9 @@ use Rattle.history.specs.Calls.{answer_of}
 use Rattle.history.specs.Machine.{Stepped, Outcome}
 use Rattle.history.specs.Law.{Law, Lawful}
 
-every_snoc : {A : Type 0} (P : A → Type 0) (xs : List A) (y : A) → Every P xs → P y → Every P (xs ++ y ∷ [])
-every_snoc P [] y h k = (k, tt)
-every_snoc P (x ∷ xs) y h k = (h.0, every_snoc P xs y h.1 k)
+each_snoc : {A : Type 0} (P : A → Type 0) (xs : List A) (y : A) → Each P xs → P y → Each P (xs ++ y ∷ [])
+each_snoc P [] y h k = (k, tt)
+each_snoc P (x ∷ xs) y h k = (h.0, each_snoc P xs y h.1 k)
 
 module _ (V : Type 0) (join : ℕ → Map → V) where
   -- what comes after a history makes a longer one
@@ -33,7 +34,7 @@ module _ (V : Type 0) (join : ℕ → Map → V) where
   law w m e S = (
     λ d es f R z. (histories V).0 join d (es ++ e ∷ []) f (longer e es (mounted bare) d w m R z S),
     λ d ts t w₂ m₂ f l k q R z R₂ z₂ S₂.
-        (histories V).1 join d (ts ++ t ∷ []) f (every_snoc legal ts t l k)
+        (histories V).1 join d (ts ++ t ∷ []) f (each_snoc legal ts t l k)
         (subst (Run V join (mounted bare) d) (sym (map-append first ts (t ∷ [])))
         (longer (first t) (map first ts) (mounted bare) d w m R z (subst (λ x. Run V join w m (x ∷ [])) (sym q) S)))
         (subst (Run V join (mounted bare) d) (sym (map-append second ts (t ∷ []))) (longer (second t) (map second ts) (mounted bare) d w₂ m₂ R₂ z₂ S₂)),

@@ -5,8 +5,7 @@ use Rattle.device.specs.Cuts.{Op.flush, replay}
 use Rattle.model.specs.declared.refusal.Refusal.{Refusal}
 use Rattle.model.specs.Plain.{Map, Ask.seal, Call.ask, Call.finish, Answer, Answer.done, Answer.refused}
 use Rattle.model.specs.Model.{refusal}
-use Rattle.model.specs.World.{Tables, Mode.mounted, Mode.sealed, Effect, Quiet, shape, finished_tables}
-use Rattle.volume.specs.Sealing.{finishing}
+use Rattle.model.specs.World.{Tables, Mode.mounted, Mode.sealed, Effect, Quiet, shape, finished_tables, finishing}
 use Rattle.history.specs.Machine.{Stepped}
 
 pub seal_step : (V : Type 0) (join : ℕ → Map → V) (t : Tables) (m : Meaning) (v : Tables × Meaning) → refusal (shape t m) seal ≡ None → v ≡ (t, flushed m)

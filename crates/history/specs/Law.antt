@@ -3,16 +3,17 @@ use Rattle.std.specs.Prelude.{◌≡◌, ℕ, List, [], ◌∷◌, ◌++◌, map
 use Rattle.device.specs.Meaning.{Meaning}
 use Rattle.device.specs.Cuts.{Op, Cutting}
 use Rattle.model.specs.Plain.{Map, Call, Answer}
+use Rattle.model.specs.TreeBlocks.{Each}
 use Rattle.model.specs.World.{Mode, Mode.mounted, Event, Event.did, Event.broke, Run, Step, Formatted, bare}
 use Rattle.model.specs.Right.{Onward, Ends}
-use Rattle.model.specs.TwoRuns.{Twin, first, second, legal, Every, Agree, clear}
+use Rattle.model.specs.TwoRuns.{Twin, first, second, legal, Agree, clear}
 
 module _ (V : Type 0) (join : ℕ → Map → V) (w : Mode) (m : Meaning) (e : Event V) where
   -- two runs: if this history and another are alike but for angles, and so is what comes next, they agree in all but what touched clones show
   abbrev pub OnwardBoth : Type 0
   OnwardBoth =
       (d : Meaning) (ts : List (Twin V)) (t : Twin V) (w₂ : Mode) (m₂ : Meaning)
-      → Formatted d → Every legal ts → legal t → first t ≡ e
+      → Formatted d → Each legal ts → legal t → first t ≡ e
       → Run V join (mounted bare) d (map first ts) → Ends (mounted bare) d (map first ts) w m
       → Run V join (mounted bare) d (map second ts) → Ends (mounted bare) d (map second ts) w₂ m₂ → Run V join w₂ m₂ (second t ∷ [])
       → Agree V clear d (ts ++ t ∷ [])

@@ -1,5 +1,5 @@
 -- Each call that is in turn has a step.
-use Rattle.std.proofs.Common.{◌≡◌, ℕ, zero, suc, ◌%◌, Bool, true, false, cond, T, List, [], ◌∷◌, take, set, Some, None, Ok, Err, Option, Result, sym, refl, ap, ◌∙◌, subst, subst₂, arith}
+use Rattle.std.proofs.Common.{◌≡◌, ℕ, zero, suc, Bool, true, false, cond, T, List, [], ◌∷◌, take, set, Some, None, Ok, Err, Option, Result, sym, refl, ap, ◌∙◌, subst, subst₂, arith}
 use Rattle.device.specs.Meaning.{Content, Meaning, blocks_of, current_at, written}
 use Rattle.device.specs.Cuts.{Op, Op.write, Op.flush, replay, cut}
 use Rattle.device.proofs.Choices.{flush_at, write_at, write_off, blocks_apply, blocks_replay}
@@ -10,7 +10,7 @@ use Rattle.model.specs.Plain.{Ask.create, Ask.clone, Ask.delete, Ask.put, Ask.re
 use Rattle.table.specs.Rows.{payload_of}
 use Rattle.model.specs.TreeBlocks.{form, elem, Change, Change.begin, Change.puts, Change.takes, root_of, tree_at, reach, Stored}
 use Rattle.model.specs.Model.{Model, maps_of, refusal, late, used, holds, tree_of, new_tree, next, broken, cut_model}
-use Rattle.model.specs.World.{Tables, Mode, Mode.mounted, Mode.sealed, Mode.down, placed, finished_tables, Event, Event.did, Event.broke, Event.lost, model_of, shape, found, fresh, sizes, Changed, Effect, Quiet, Mounts, Step, Run, bare}
+use Rattle.model.specs.World.{Tables, Mode, Mode.mounted, Mode.sealed, Mode.down, placed, finished_tables, Event, Event.did, Event.broke, Event.lost, model_of, shape, found, finishing, fresh, sizes, Changed, Effect, Quiet, Mounts, Step, Run, bare}
 use Rattle.model.specs.Right.{Ends}
 use Rattle.model.specs.Onward.{Turn, GoesOn, formatting, Formats}
 use Rattle.model.proofs.TreeLaws.{elem_left, elem_right, stored_same, reach_form}
@@ -102,7 +102,7 @@ module _ (V : Type 0) (join : ℕ → Map → V) where
   possible (mounted t) mount M m f u = can_mount (mounted t) m
   possible (sealed t) (ask q) M m f u = absurd u
   possible (sealed t) finish M m f u =
-      let os : List Op = write (suc t.generation % 2) (slot_words m.width (suc t.generation) t.working) ∷ flush ∷ [] in
+      let os : List Op = finishing t m.width in
       (done, os, mounted (finished_tables t), replay os m, (refl, (refl, refl, refl)))
   possible (sealed t) reopen M m f u = (done, [], mounted t, m, (refl, (refl, (refl, refl))))
   possible (sealed t) mount M m f u = absurd u

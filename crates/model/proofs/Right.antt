@@ -1,5 +1,5 @@
 -- The plain tables follow the trees.
-use Rattle.std.proofs.Common.{◌≡◌, ℕ, zero, suc, ◌%◌, Bool, true, false, cond, ◌||◌, eqb, ◌⊎◌, List, [], ◌∷◌, ◌++◌, take, set, ℤ, is_some, Some, None, Option, sym, refl, ap, ◌∙◌, subst, ap₂, subst₂, inl, inr}
+use Rattle.std.proofs.Common.{◌≡◌, ℕ, zero, suc, ◌%◌, Bool, true, false, cond, ◌||◌, eqb, ◌⊎◌, List, [], ◌∷◌, take, set, ℤ, is_some, Some, None, Option, sym, refl, ap, ◌∙◌, subst, ap₂, inl, inr}
 use mathlib.Core.Path.{fun_ext}
 use Rattle.std.specs.Option.{option_or}
 use Rattle.device.specs.Meaning.{Meaning}
@@ -18,7 +18,7 @@ use Rattle.model.proofs.Places.{form_of?, rows_of?, forms_place, maps_place, for
 use Rattle.model.proofs.Grants.{create_rows, put_rows, remove_rows}
 use Rattle.model.specs.Model.{Trees, Model, maps_of, forms, shape_of, holds, late, refusal, tree_of, new_tree, standing, with_change, after, next, reply, broken, landed, cut_model}
 use Rattle.model.specs.World.{Mode, Mode.mounted, Mode.sealed, Mode.down, Event, Event.did, Event.broke, Event.lost, Run, Step, bare, model_of, shape, Tables, FreeWrite, Changed, Effect, Quiet}
-use Rattle.model.specs.Right.{Outcome, fed, Shows, Takes, Right, Ends, Onward, Histories}
+use Rattle.model.specs.Right.{Outcome, fed, Shows, Takes, Right, Histories}
 use Rattle.model.proofs.Histories.{Base, Fine, step_fine, broke_fine, idle_cut, formatted_fine, fine_table}
 use Rattle.model.proofs.TwoRuns.{two_runs}
 
@@ -241,13 +241,3 @@ module _ (V : Type 0) (join : ℕ → Map → V) where
 pub histories : (V : Type 0) → Histories V
 histories V =
     ((λ join m es f R. right V join es plain.start (model_of bare m) (mounted bare) m refl (formatted_fine V join m f) R), two_runs V)
-
-module _ (V : Type 0) (join : ℕ → Map → V) (w : Mode) (m : Meaning) (c : Call) (a : Answer V) (os : List Op) (w' : Mode) (m' : Meaning) (S : Step V join w m c a os w' m') where
-  run_more : (es : List (Event V)) (v : Mode) (d : Meaning) → Run V join v d es → Ends v d es w m → Run V join v d (es ++ did c a os w' m' ∷ [])
-  run_more [] v d R e = (subst₂ (λ x y. Step V join x y c a os w' m') (sym e.0) (sym e.1) S, tt)
-  run_more (did c₁ a₁ os₁ v₁ d₁ ∷ es) v d R e = (R.0, run_more es v₁ d₁ R.1 e)
-  run_more (broke c₁ os₁ k κ ∷ es) v d R e = (R.0, run_more es down (cut κ (replay (take k os₁) d)) R.1 e)
-  run_more (lost κ ∷ es) v d R e = run_more es down (cut κ d) R e
-
-  pub onward : Onward V join w m (did c a os w' m')
-  onward d es f R e = (histories V).0 join d (es ++ did c a os w' m' ∷ []) f (run_more es (mounted bare) d R e)

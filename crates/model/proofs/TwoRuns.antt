@@ -10,14 +10,14 @@ use Rattle.model.specs.declared.refusal.Refusal.{Refusal}
 use Rattle.model.specs.declared.refusal.Refusal.TheVariants.{Number, Speed, Angle, Absent}
 use Rattle.model.specs.Plain.{Map, Maps, place, has, first, early, map_at, answer, Ask, Call, Answer}
 use Rattle.model.specs.Plain.{Ask.create, Ask.clone, Ask.delete, Ask.put, Ask.remove, Ask.get, Ask.at, Ask.rows, Ask.summary, Ask.seal, Call.ask, Call.finish, Call.reopen, Call.mount, Answer.done, Answer.refused}
-use Rattle.model.specs.TreeBlocks.{Tree, Form, Change, Change.begin, Change.puts, Change.takes, without_angle, form, bare_tree, root_of, changed_on, writes}
+use Rattle.model.specs.TreeBlocks.{Each, Tree, Form, Change, Change.begin, Change.puts, Change.takes, without_angle, form, bare_tree, root_of, changed_on, writes}
 use Rattle.model.proofs.Places.{form_of?, rows_of?, forms_place, maps_place, forms_set, form_at_lem}
 use Rattle.model.proofs.TreeLaws.{grow_form}
 use Rattle.tree.specs.Reads.{look}
 use Rattle.model.specs.Model.{Forms, Model, Shapes, forms, maps_of, shape_of, free, form_at, holds, late, refusal, left_after, tree_of, source, new_tree, standing, with_change, after, next, reply, finished, cut_model, landed, broken, working≔}
 use Rattle.model.specs.World.{Mode, Mode.mounted, Mode.down, Run, bare, model_of}
 use Rattle.model.specs.TwoRuns as tw
-use Rattle.model.specs.TwoRuns.{Both, Both.alike, one, two, Legal, Twin, legal, Marks, clear, finished_marks, touched, same_angle, mark_ask, marked, unless, refusal_in, Unseen, Remain, Every, Finds, Agree, TwoRuns}
+use Rattle.model.specs.TwoRuns.{Both, Both.alike, one, two, Legal, Twin, legal, Marks, clear, finished_marks, touched, same_angle, mark_ask, marked, unless, refusal_in, Unseen, Remain, Finds, Agree, TwoRuns}
 use Rattle.model.proofs.Histories.{Fine, step_fine, broke_fine, idle_cut, formatted_fine, fine_finds}
 
 abbrev Agreeing : {A : Type 0} → List Bool → List (Option A) → List (Option A) → Type 0
@@ -357,7 +357,7 @@ module _ (V : Type 0) (join : ℕ → Map → V) where
   rel_broken (tw.puts n s a b) k κ μ M N R = (μ, refl, R)
 
   agree : (ts : List (Twin V)) (μ : Marks) (M N : Model) (w : Mode) (m : Meaning) (w₂ : Mode) (m₂ : Meaning) → Fine M w m → Fine N w₂ m₂ → Rel μ M N
-      → Every legal ts → Run V join w m (map tw.first ts) → Run V join w₂ m₂ (map tw.second ts) → Agree V μ m ts
+      → Each legal ts → Run V join w m (map tw.first ts) → Run V join w₂ m₂ (map tw.second ts) → Agree V μ m ts
   agree [] μ M N w m w₂ m₂ f f₂ R l r r₂ = tt
   agree (tw.did x a os v n a₂ os₂ v₂ n₂ ∷ ts) μ M N w m w₂ m₂ f f₂ R l r r₂ =
       let s = step_fine V join w (one x) M m a os v n f r.0 in

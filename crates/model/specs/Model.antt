@@ -74,8 +74,12 @@ height S n = elim (place S.working n) [ Some x ↦ x.0.0 | None ↦ 0 ]
 abbrev pub holds : Shapes → ℕ → ℕ → Bool
 holds S n s = elem s (keys_of (form_at S n))
 
+-- the refusals of a change of clone n that needs k blocks, where `spare` are free and `left` writes are left
+abbrev pub lacking : ℕ → ℕ → LayerMark → ℕ → ℕ → Option Refusal
+lacking spare left layer n k = first ((nat_lt spare k, Short) ∷ (nat_lt left k, Worn (Some n) layer) ∷ [])
+
 abbrev pub needs : Shapes → ℕ → ℕ → Option Refusal
-needs S n k = first ((nat_lt (length (free S)) k, Short) ∷ (nat_lt S.left k, Worn (Some n) S.layer) ∷ [])
+needs S n k = lacking (length (free S)) S.left S.layer n k
 
 -- the refusals 10 to 12
 abbrev pub late : Shapes → Ask → Option Refusal

@@ -1,13 +1,13 @@
 -- The law of histories: every answer is that of the plain tables; and two runs that differ in angles.
-use Rattle.std.specs.Prelude.{◌≡◌, ℕ, zero, suc, ◌%◌, ◌⊎◌, List, [], ◌∷◌, ◌++◌, take, None, Ok, Option}
+use Rattle.std.specs.Prelude.{◌≡◌, ℕ, zero, suc, ◌⊎◌, List, [], ◌∷◌, ◌++◌, take, None, Ok, Option}
 use Rattle.device.specs.Meaning.{Meaning, current_at}
-use Rattle.device.specs.Cuts.{Op, Op.write, Op.flush, cut, replay}
-use Rattle.page.specs.Slot.{Table, slot_words}
+use Rattle.device.specs.Cuts.{Op, Op.flush, cut, replay}
+use Rattle.page.specs.Slot.{Table}
 use Rattle.model.specs.declared.refusal.Refusal.{Refusal}
 use Rattle.model.specs.Plain.{Map, Call, Plain, Call.ask, Call.finish, Call.reopen, Call.mount, Ask.create, Ask.clone, Ask.delete, Ask.put, Ask.remove, Ask.get, Ask.at, Ask.rows, Ask.summary, Ask.seal, start, next, reply, finished}
 use Rattle.model.specs.TreeBlocks.{Each}
 use Rattle.model.specs.Model.{maps_of, late}
-use Rattle.model.specs.World.{Tables, Mode, Mode.mounted, Mode.sealed, Mode.down, Event, Event.did, Event.broke, Event.lost, Run, Formatted, found, bare, trees, shape, FreeWrite}
+use Rattle.model.specs.World.{Tables, Mode, Mode.mounted, Mode.sealed, Mode.down, Event, Event.did, Event.broke, Event.lost, Run, Formatted, found, bare, trees, shape, FreeWrite, finishing}
 use Rattle.model.specs.TwoRuns.{TwoRuns}
 
 -- what a cut inside a call may leave of the tables: the old, or after the write of a finish the new
@@ -52,7 +52,7 @@ Takes (mounted t) m finish os = ⊥
 Takes (mounted t) m reopen os = ⊥
 Takes (mounted t) m mount os = os ≡ []
 Takes (sealed t) m (ask q) os = ⊥
-Takes (sealed t) m finish os = os ≡ write (suc t.generation % 2) (slot_words m.width (suc t.generation) t.working) ∷ flush ∷ []
+Takes (sealed t) m finish os = os ≡ finishing t m.width
 Takes (sealed t) m reopen os = os ≡ []
 Takes (sealed t) m mount os = ⊥
 Takes down m (ask q) os = ⊥

@@ -8,6 +8,7 @@ use Rattle.model.specs.declared.refusal.Refusal.{Refusal}
 use Rattle.model.specs.Plain.{Map, Ask, Call, Answer}
 use Rattle.model.specs.Plain.{Ask.create, Ask.clone, Ask.delete, Ask.put, Ask.remove, Ask.get, Ask.at, Ask.rows, Ask.summary, Ask.seal, Call.ask, Call.finish, Call.reopen, Call.mount}
 use Rattle.model.specs.Plain.{Answer.done, Answer.angle, Answer.listed, Answer.joined, Answer.refused}
+use Rattle.model.specs.TreeBlocks.{Each}
 use Rattle.model.specs.World.{Mode, Mode.mounted, Event, Run, Formatted, found, bare}
 
 -- one call of both runs: the same, or a put with an angle for each
@@ -132,10 +133,6 @@ Remain (alike reopen) μ μ' = μ' ≡ μ
 Remain (alike mount) μ μ' = μ' ≡ μ
 Remain (puts n s a b) μ μ' = μ' ≡ μ
 
-abbrev pub Every : {A : Type 0} → (A → Type 0) → List A → Type 0
-Every P [] = Unit
-Every P (x ∷ xs) = P x × Every P xs
-
 module _ (V : Type 0) where
   -- the next mount finds this generation
   abbrev pub Finds : Meaning → ℕ → Type 0
@@ -151,6 +148,6 @@ module _ (V : Type 0) where
 abbrev pub TwoRuns : (V : Type 0) → Type 0
 TwoRuns V =
     (join : ℕ → Map → V) (m : Meaning) (ts : List (Twin V))
-    → Formatted m → Every legal ts
+    → Formatted m → Each legal ts
     → Run V join (mounted bare) m (map first ts) → Run V join (mounted bare) m (map second ts)
     → Agree V clear m ts

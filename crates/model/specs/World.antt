@@ -30,6 +30,10 @@ placed t x = record { working = x; committed = t.committed; generation = t.gener
 abbrev pub finished_tables : Tables → Tables
 finished_tables t = record { working = t.working; committed = t.working; generation = suc t.generation }
 
+-- the device calls of finish, at width w: the slot of the next generation, and a flush
+abbrev pub finishing : Tables → ℕ → List Op
+finishing t w = write (suc t.generation % 2) (slot_words w (suc t.generation) t.working) ∷ flush ∷ []
+
 abbrev pub bare : Tables
 bare = record { working = blank; committed = blank; generation = 1 }
 
@@ -157,7 +161,7 @@ module _ (V : Type 0) (join : ℕ → Map → V) where
   Does (mounted t) m mount a os w' m' = Mounts m a os w'
   Does (sealed t) m (ask q) a os w' m' = ⊥
   Does (sealed t) m finish a os w' m' =
-      (a ≡ done) × (os ≡ write (suc t.generation % 2) (slot_words m.width (suc t.generation) t.working) ∷ flush ∷ []) × (w' ≡ mounted (finished_tables t))
+      (a ≡ done) × (os ≡ finishing t m.width) × (w' ≡ mounted (finished_tables t))
   Does (sealed t) m reopen a os w' m' = (a ≡ done) × Quiet (mounted t) os w'
   Does (sealed t) m mount a os w' m' = ⊥
   Does down m (ask q) a os w' m' = ⊥

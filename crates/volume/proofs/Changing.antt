@@ -23,7 +23,7 @@ use Rattle.model.proofs.Histories.{keeps_free}
 use Rattle.model.proofs.Reach.{use_is_reach, free_by_counts}
 use Rattle.edit.specs.Edited.{Counting, Editable, WritesFree, given_up, Edited}
 use Rattle.volume.specs.Sealing.{root_in}
-use Rattle.volume.specs.Kept.{Kept, lacking}
+use Rattle.volume.specs.Kept.{Kept, lacking_in}
 use Rattle.volume.proofs.Places.{others, roots_split, roots_placed, few_rootings}
 
 pub root_block : (c : ℕ → Content) (r : Root) → (tree_at c r).1.0 ≡ r.1
@@ -35,7 +35,7 @@ module _ (t : Tables) (m : Meaning) (cs : List ℕ) (S : Kept t (m, cs)) where
   free_is = free_by_counts t m cs S.standing S.counted S.long
 
   -- the refusals 10 and 11 by the counts
-  pub needs_is : (k n : ℕ) → needs (shape t m) k n ≡ lacking (m, cs) k n
+  pub needs_is : (k n : ℕ) → needs (shape t m) k n ≡ lacking_in (m, cs) k n
   needs_is k n = ap (λ (f : List ℕ). first ((ltb (length f) n, Short) ∷ (ltb m.left n, Worn (Some k) m.left_mark) ∷ [])) free_is
 
   -- references, where a clone is not there

@@ -1,5 +1,5 @@
 -- What a mounted volume is, and what it keeps from call to call.
-use Rattle.std.specs.Prelude.{◌≡◌, ℕ, ◌≤◌, true, List, [], ◌∷◌, map, length, Some, Ok, Err, Option, Result, nat_lt}
+use Rattle.std.specs.Prelude.{◌≡◌, ℕ, ◌<◌, ◌≤◌, true, List, map, length, Some, Ok, Err, Option, Result}
 use Rattle.device.specs.Meaning.{Meaning, blocks_of, current_at}
 use Rattle.device.specs.Cuts.{Op, replay}
 use Rattle.page.specs.Block.{block_at}
@@ -8,9 +8,8 @@ use Rattle.page.specs.View.{root_of}
 use Rattle.counts.specs.Counts.{Counted, free_blocks}
 use Rattle.counts.specs.Moves.{State}
 use Rattle.model.specs.declared.refusal.Refusal.{Refusal}
-use Rattle.model.specs.declared.refusal.Refusal.TheVariants.{Short, Worn}
-use Rattle.model.specs.Plain.{Ask, Map, map_at, first}
-use Rattle.model.specs.Model.{maps_of}
+use Rattle.model.specs.Plain.{Ask, Map, map_at, place}
+use Rattle.model.specs.Model.{maps_of, lacking}
 use Rattle.model.specs.World.{Tables, Mode.mounted, Asked, sizes, trees}
 use Rattle.model.specs.Reach.{rootings, Standing}
 
@@ -36,10 +35,14 @@ pub record Called {X : Type 0} (q : Ask) (x : X) (v : Tables × Meaning) (r : Re
   pub trace : w.1 ≡ replay os v.1
   pub asked : Asked Err (Ok x) v.0 v.1 q r os (mounted w.0) w.1
 
+-- clone n is there, and r is the root of its tree
+abbrev pub Stands : Tables × Meaning → ℕ → Root → Type 0
+Stands v n r = (n < 24) × (place v.0.working n ≡ Some (r.height, r.block))
+
 -- the rows of clone n
 abbrev pub rows_of_clone : Tables × Meaning → ℕ → Map
 rows_of_clone v n = map_at (maps_of (trees (current_at v.1) v.0.working)) n
 
--- the refusals of a change of clone k that needs n free blocks: too few blocks are free, or too few writes are left
-abbrev pub lacking : State → ℕ → ℕ → Option Refusal
-lacking q k n = first ((nat_lt (length (free_blocks q.1)) n, Short) ∷ (nat_lt q.0.left n, Worn (Some k) q.0.left_mark) ∷ [])
+-- the refusals of a change of clone n that needs k blocks, by the counts
+abbrev pub lacking_in : State → ℕ → ℕ → Option Refusal
+lacking_in q n k = lacking (length (free_blocks q.1)) q.0.left q.0.left_mark n k

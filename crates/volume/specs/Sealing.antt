@@ -1,8 +1,7 @@
 -- Sealing, and the next generation.
-use Rattle.std.specs.Prelude.{ℕ, suc, ◌%◌, ◌<◌, ◌≤◌, List, [], ◌∷◌, Some, None, Option}
+use Rattle.std.specs.Prelude.{ℕ, ◌<◌, ◌≤◌, List, [], ◌∷◌, Some, None, Option}
 use Rattle.device.specs.Meaning.{Meaning}
-use Rattle.device.specs.Cuts.{Op, Op.write, Op.flush}
-use Rattle.page.specs.Slot.{Root, Table, slot_words}
+use Rattle.page.specs.Slot.{Root, Table}
 use Rattle.model.specs.World.{Tables}
 
 -- the block of a place's root, if it has one
@@ -13,10 +12,6 @@ root_in (Some r) = r.1 ∷ []
 -- what seal asks: a write is left, and a generation follows
 abbrev pub Sealable : Tables × Meaning → Type 0
 Sealable v = (1 ≤ v.1.left) × (v.0.generation < 268435455)
-
--- the device calls of finish, at width w
-abbrev pub finishing : Tables → ℕ → List Op
-finishing t w = write (suc t.generation % 2) (slot_words w (suc t.generation) t.working) ∷ flush ∷ []
 
 -- the tables with other committed places
 abbrev pub with_committed : Tables → Table → Tables

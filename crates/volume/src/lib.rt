@@ -10,10 +10,11 @@ ghost use Rattle.tree.specs.Reads.{look, total};
 ghost use Rattle.edit.specs.Edited.{Granted};
 ghost use Rattle.page.specs.Slot.{Table};
 ghost use Rattle.model.specs.World.{sizes, found, fresh, bare};
+ghost use Rattle.model.specs.declared.refusal.Refusal.TheVariants.{Number};
 ghost use Rattle.mount.specs.Formats.{Made, Hindered};
 ghost use Rattle.mount.specs.Mounts.{Accepted, Off, Refused};
 ghost use Rattle.reads.specs.Lists.{row_in};
-ghost use Rattle.volume.specs.Kept.{Called, lacking, rows_of_clone};
+ghost use Rattle.volume.specs.Kept.{Called, Stands, lacking_in, rows_of_clone};
 
 mod sealed;
 
@@ -58,8 +59,8 @@ fn reserve<D: Device>(store: &Store<D>, clone: u32, n: u32) -> Result<Grant, Ref
     requires few { n ≤ 11 }
     requires sized { sizes (blocks_of store.now.0) store.now.0.width ≡ true }
     ensures { MatchResult result
-        (λ grant. (lacking store.now clone n ≡ None) × Granted n store.now.0 store.now.1 grant)
-        (λ e. lacking store.now clone n ≡ Some e) }
+        (λ grant. (lacking_in store.now clone n ≡ None) × Granted n store.now.0 store.now.1 grant)
+        (λ e. lacking_in store.now clone n ≡ Some e) }
 {
     let Some(mut grant) = store.grant(n as usize) else {
         return Err(Refusal::Short);
@@ -153,12 +154,13 @@ impl<D: Device> Volume<D> {
         device
     }
 
-    // The root of a clone's tree, if the clone is there.
-    fn root_at(&self, n: u32) -> Option<Root>
-        requires { n < 24 }
-        ensures { root_of result ≡ place self.now.0.working n }
+    // What stands at a working place; refuses a number above 23.
+    fn place(&self, n: u32) -> Result<Option<Root>, Refusal>
+        ensures { MatchResult result
+            (λ root. (n < 24) × (root_of root ≡ place self.now.0.working n))
+            (λ e. (24 ≤ n) × (e ≡ Number)) }
     {
-        self.working[n as usize]
+        self.working.get(n as usize).copied().ok_or(Refusal::Number)
     }
 
     // Refuses a number above 23, and one whose clone is there.
@@ -167,74 +169,61 @@ impl<D: Device> Volume<D> {
             (λ _. (early (has self.now.0.working) (create n) ≡ None) × (n < 24) × (place self.now.0.working n ≡ None))
             (λ e. early (has self.now.0.working) (create n) ≡ Some e) }
     {
-        if n > 23 {
-            return Err(Refusal::Number);
+        match self.place(n)? {
+            Some(_) => Err(Refusal::Taken),
+            None => Ok(()),
         }
-        if self.root_at(n).is_some() {
-            return Err(Refusal::Taken);
-        }
-        Ok(())
     }
 
     // The root of a clone's tree; refuses a number above 23, and a clone that is not there.
     fn find(&self, n: u32) -> Result<Root, Refusal>
         ensures { MatchResult result
-            (λ root. (early (has self.now.0.working) (delete n) ≡ None) × (n < 24) × (place self.now.0.working n ≡ Some (root.height, root.block)))
+            (λ root. (early (has self.now.0.working) (delete n) ≡ None) × Stands self.now n root)
             (λ e. early (has self.now.0.working) (delete n) ≡ Some e) }
     {
-        if n > 23 {
-            return Err(Refusal::Number);
-        }
-        self.root_at(n).ok_or(Refusal::Absent)
+        self.place(n)?.ok_or(Refusal::Absent)
     }
 
     // The root of a clone's tree and the row to be put; refuses a number above 23, then a speed and an angle out of their ranges,
     // then a clone that is not there.
     fn check_put(&self, n: u32, speed: u32, angle: i32) -> Result<(Root, Row), Refusal>
         ensures { MatchResult result
-            (λ x. (early (has self.now.0.working) (put n speed angle) ≡ None) × (n < 24)
-            × (place self.now.0.working n ≡ Some (x.0.height, x.0.block)) × (x.1.speed ≡ speed) × (x.1.angle ≡ angle))
+            (λ x. (early (has self.now.0.working) (put n speed angle) ≡ None) × Stands self.now n x.0
+            × (x.1.speed ≡ speed) × (x.1.angle ≡ angle))
             (λ e. early (has self.now.0.working) (put n speed angle) ≡ Some e) }
     {
-        if n > 23 {
-            return Err(Refusal::Number);
-        }
+        let place = self.place(n)?;
         let row = Row::new(speed, angle)?;
-        let root = self.root_at(n).ok_or(Refusal::Absent)?;
+        let root = place.ok_or(Refusal::Absent)?;
         Ok((root, row))
     }
 
     // The root of a clone's tree; refuses a number above 23, then a speed above 9,999, then a clone that is not there.
     fn check_speed(&self, n: u32, speed: u32) -> Result<Root, Refusal>
         ensures { MatchResult result
-            (λ root. (early (has self.now.0.working) (get n speed) ≡ None) × (n < 24) × (speed < 10000)
-            × (place self.now.0.working n ≡ Some (root.height, root.block)))
+            (λ root. (early (has self.now.0.working) (get n speed) ≡ None) × Stands self.now n root × (speed < 10000))
             (λ e. early (has self.now.0.working) (get n speed) ≡ Some e) }
     {
-        if n > 23 {
-            return Err(Refusal::Number);
-        }
+        let place = self.place(n)?;
         if speed > 9_999 {
             return Err(Refusal::Speed);
         }
-        self.root_at(n).ok_or(Refusal::Absent)
+        place.ok_or(Refusal::Absent)
     }
 
     // The root of the clone to be copied; refuses numbers above 23, a source that is not there, and a copy that is.
     fn check_copy(&self, from: u32, to: u32) -> Result<Root, Refusal>
         ensures { MatchResult result
-            (λ root. (early (has self.now.0.working) (clone from to) ≡ None) × (from < 24) × (to < 24)
-            × (place self.now.0.working from ≡ Some (root.height, root.block)) × (place self.now.0.working to ≡ None))
+            (λ root. (early (has self.now.0.working) (clone from to) ≡ None) × Stands self.now from root × (to < 24) × (place self.now.0.working to ≡ None))
             (λ e. early (has self.now.0.working) (clone from to) ≡ Some e) }
     {
-        if from > 23 || to > 23 {
-            return Err(Refusal::Number);
+        let source = self.place(from)?;
+        let target = self.place(to)?;
+        let root = source.ok_or(Refusal::Absent)?;
+        match target {
+            Some(_) => Err(Refusal::Taken),
+            None => Ok(root),
         }
-        let root = self.root_at(from).ok_or(Refusal::Absent)?;
-        if self.root_at(to).is_some() {
-            return Err(Refusal::Taken);
-        }
-        Ok(root)
     }
 
     // Makes a copy of a clone, which shares all blocks of it: none is taken and none is written.

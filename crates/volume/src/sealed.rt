@@ -7,9 +7,9 @@ ghost use Rattle.counts.specs.Counts.{add_all};
 ghost use Rattle.counts.specs.Moves.{Held, Dropped};
 ghost use Rattle.model.specs.Plain.{Ask.seal, place};
 ghost use Rattle.model.specs.Model.{refusal};
-ghost use Rattle.model.specs.World.{shape, finished_tables};
+ghost use Rattle.model.specs.World.{shape, finished_tables, finishing};
 ghost use Rattle.mount.specs.Mounts.{with_slot};
-ghost use Rattle.volume.specs.Sealing.{root_in, Sealable, finishing, with_committed};
+ghost use Rattle.volume.specs.Sealing.{root_in, Sealable, with_committed};
 
 use super::Volume;
 use counts::Store;

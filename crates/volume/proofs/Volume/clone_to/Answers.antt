@@ -20,12 +20,12 @@ returns-in_err-root g c =
 pub retain-requires-clause-within : goal.retain-requires-clause-within
 retain-requires-clause-within g c =
     let r : Root = (c.in_ok-root.root.height, c.in_ok-root.root.block) in
-    within _ _ c.self.invariant c.args.from r (ap (λ (v : Tables × Meaning). place v.0.working c.args.from) c.self.view_is ∙ c.in_ok-root.ensures.3) c.in_ok-root.ensures.1
+    within _ _ c.self.invariant c.args.from r (ap (λ (v : Tables × Meaning). place v.0.working c.args.from) c.self.view_is ∙ c.in_ok-root.ensures.1.1) c.in_ok-root.ensures.1.0
 
 pub retain-requires-clause-room : goal.retain-requires-clause-room
 retain-requires-clause-room g c =
     let r : Root = (c.in_ok-root.root.height, c.in_ok-root.root.block) in
-    room _ _ c.self.invariant c.args.from r (ap (λ (v : Tables × Meaning). place v.0.working c.args.from) c.self.view_is ∙ c.in_ok-root.ensures.3) c.in_ok-root.ensures.1
+    room _ _ c.self.invariant c.args.from r (ap (λ (v : Tables × Meaning). place v.0.working c.args.from) c.self.view_is ∙ c.in_ok-root.ensures.1.1) c.in_ok-root.ensures.1.0
 
 pub invariant_of-self : goal.invariant_of-self
 invariant_of-self g c =
@@ -33,8 +33,8 @@ invariant_of-self g c =
     let i = c.self.inside in
     let t : Tables = tables i.working i.committed i.generation in
     let q : State = i.store in
-    let k : Kept (placed t (set t.working c.args.to (Some r))) (q.0, retained r.1 q.1) = copied t q c.self.invariant c.args.from r (ap (λ (v : Tables × Meaning). place v.0.working c.args.from) c.self.view_is ∙ c.in_ok-root.ensures.3) c.in_ok-root.ensures.1
-    c.args.to c.in_ok-root.ensures.2 (ap (λ (v : Tables × Meaning). place v.0.working c.args.to) c.self.view_is ∙ c.in_ok-root.ensures.4) in
+    let k : Kept (placed t (set t.working c.args.to (Some r))) (q.0, retained r.1 q.1) = copied t q c.self.invariant c.args.from r (ap (λ (v : Tables × Meaning). place v.0.working c.args.from) c.self.view_is ∙ c.in_ok-root.ensures.1.1) c.in_ok-root.ensures.1.0
+    c.args.to c.in_ok-root.ensures.2 (ap (λ (v : Tables × Meaning). place v.0.working c.args.to) c.self.view_is ∙ c.in_ok-root.ensures.3) in
     subst (λ t. Kept t c.retain.new.self) (sym (tables_set i.working i.committed i.generation c.args.to (Some c.in_ok-root.root)))
     (subst (λ (q : State). Kept (placed t (set t.working c.args.to (Some r))) q) (sym (ap₂ (λ (m : Meaning) (cs : List ℕ). (m, cs)) c.retain.ensures.kept c.retain.ensures.counts)) k)
 
@@ -48,6 +48,6 @@ returns g c =
     let d : Called (clone c.args.from c.args.to) (tt {0}) v (Ok (tt {0})) (placed t (set t.working c.args.to (Some r)), c.retain.new.self.0)
     = clone_called v c.args.from c.args.to r c.retain.new.self.0
     (ap (λ (v : Tables × Meaning). early (has v.0.working) (clone c.args.from c.args.to)) c.self.view_is ∙ c.in_ok-root.ensures.0)
-    (ap (λ (v : Tables × Meaning). place v.0.working c.args.from) c.self.view_is ∙ c.in_ok-root.ensures.3) c.retain.ensures.kept in
+    (ap (λ (v : Tables × Meaning). place v.0.working c.args.from) c.self.view_is ∙ c.in_ok-root.ensures.1.1) c.retain.ensures.kept in
     subst (λ (t' : Tables). Called (clone c.args.from c.args.to) (tt {0}) c.args.self.now (Ok (tt {0})) (t', c.retain.new.self.0)) (sym (tables_set i.working i.committed i.generation c.args.to (Some c.in_ok-root.root)))
     (subst (λ (v : Tables × Meaning). Called (clone c.args.from c.args.to) (tt {0}) v (Ok (tt {0})) (placed t (set t.working c.args.to (Some r)), c.retain.new.self.0)) c.self.view_is d)

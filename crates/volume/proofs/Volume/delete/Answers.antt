@@ -20,16 +20,16 @@ pub overflow_sub-root : goal.overflow_sub-root
 overflow_sub-root g c =
     let r : Root = (c.in_ok-root.root.height, c.in_ok-root.root.block) in
     let i = c.self.inside in
-    (good (tables i.working i.committed i.generation) i.store c.self.invariant c.args.n r (ap (λ (v : Tables × Meaning). place v.0.working c.args.n) c.self.view_is ∙ c.in_ok-root.ensures.2) c.in_ok-root.ensures.1).height
+    (good (tables i.working i.committed i.generation) i.store c.self.invariant c.args.n r (ap (λ (v : Tables × Meaning). place v.0.working c.args.n) c.self.view_is ∙ c.in_ok-root.ensures.1.1) c.in_ok-root.ensures.1.0).height
 
 pub release-requires : goal.release-requires
 release-requires g c =
     let r : Root = (c.in_ok-root.root.height, c.in_ok-root.root.block) in
     let i = c.self.inside in
     let t : Tables = tables i.working i.committed i.generation in
-    let at : place t.working c.args.n ≡ Some r = ap (λ (v : Tables × Meaning). place v.0.working c.args.n) c.self.view_is ∙ c.in_ok-root.ensures.2 in
-    let up : 1 ≤ r.0 = (good t i.store c.self.invariant c.args.n r at c.in_ok-root.ensures.1).height in
-    subst (λ l. Held i.store.0 i.store.1 r.1 l) (top_is r.0 up) (held t i.store c.self.invariant c.args.n r at c.in_ok-root.ensures.1)
+    let at : place t.working c.args.n ≡ Some r = ap (λ (v : Tables × Meaning). place v.0.working c.args.n) c.self.view_is ∙ c.in_ok-root.ensures.1.1 in
+    let up : 1 ≤ r.0 = (good t i.store c.self.invariant c.args.n r at c.in_ok-root.ensures.1.0).height in
+    subst (λ l. Held i.store.0 i.store.1 r.1 l) (top_is r.0 up) (held t i.store c.self.invariant c.args.n r at c.in_ok-root.ensures.1.0)
 
 pub invariant_of-self : goal.invariant_of-self
 invariant_of-self g c =
@@ -37,8 +37,8 @@ invariant_of-self g c =
     let i = c.self.inside in
     let t : Tables = tables i.working i.committed i.generation in
     let q : State = i.store in
-    let at : place t.working c.args.n ≡ Some r = ap (λ (v : Tables × Meaning). place v.0.working c.args.n) c.self.view_is ∙ c.in_ok-root.ensures.2 in
-    let k : Kept (placed t (set t.working c.args.n None)) (q.0, c.release.new.self.1) = dropped t q c.self.invariant c.args.n r at c.in_ok-root.ensures.1 c.release.new.self.1 c.release.ensures.sized c.release.ensures.dropped in
+    let at : place t.working c.args.n ≡ Some r = ap (λ (v : Tables × Meaning). place v.0.working c.args.n) c.self.view_is ∙ c.in_ok-root.ensures.1.1 in
+    let k : Kept (placed t (set t.working c.args.n None)) (q.0, c.release.new.self.1) = dropped t q c.self.invariant c.args.n r at c.in_ok-root.ensures.1.0 c.release.new.self.1 c.release.ensures.sized c.release.ensures.dropped in
     subst (λ t. Kept t c.release.new.self) (sym (tables_set i.working i.committed i.generation c.args.n None))
     (subst (λ (m : Meaning). Kept (placed t (set t.working c.args.n None)) (m, c.release.new.self.1)) (sym c.release.ensures.kept) k)
 

@@ -30,15 +30,15 @@ reserve-requires-clause-few g c =
     let i = c.self.inside in
     let t : Tables = tables i.working i.committed i.generation in
     let r : Root = (c.in_ok-root.root.height, c.in_ok-root.root.block) in
-    let at : place t.working c.args.n ≡ Some r = ap (λ (v : Tables × Meaning). place v.0.working c.args.n) c.self.view_is ∙ c.in_ok-root.ensures.2 in
-    omega (arith, good_low (blocks_of i.store.0) (current_at i.store.0) r (good t i.store c.self.invariant c.args.n r at c.in_ok-root.ensures.1))
+    let at : place t.working c.args.n ≡ Some r = ap (λ (v : Tables × Meaning). place v.0.working c.args.n) c.self.view_is ∙ c.in_ok-root.ensures.1.1 in
+    omega (arith, good_low (blocks_of i.store.0) (current_at i.store.0) r (good t i.store c.self.invariant c.args.n r at c.in_ok-root.ensures.1.0))
 
 pub returns-in_err-grant : goal.returns-in_err-grant
 returns-in_err-grant g c =
     let i = c.self.inside in
     let t : Tables = tables i.working i.committed i.generation in
     let r : Root = (c.in_ok-root.root.height, c.in_ok-root.root.block) in
-    let at : place t.working c.args.n ≡ Some r = ap (λ (v : Tables × Meaning). place v.0.working c.args.n) c.self.view_is ∙ c.in_ok-root.ensures.2 in
+    let at : place t.working c.args.n ≡ Some r = ap (λ (v : Tables × Meaning). place v.0.working c.args.n) c.self.view_is ∙ c.in_ok-root.ensures.1.1 in
     let l : late (shape t i.store.0) (put c.args.n c.args.speed c.args.angle) ≡ Some c.in_err-grant.field-0.0
     = ap (λ (h : ℕ). needs (shape t i.store.0) c.args.n (2 * h + 1)) (high t i.store.0 i.store.1 c.self.invariant c.args.n r at)
     ∙ needs_is t i.store.0 i.store.1 c.self.invariant c.args.n (2 * r.0 + 1) ∙ c.in_err-grant.ensures in
@@ -53,8 +53,8 @@ put_tree-requires-clause-editable g c =
     let i = c.self.inside in
     let t : Tables = tables i.working i.committed i.generation in
     let r : Root = (c.in_ok-root.root.height, c.in_ok-root.root.block) in
-    let at : place t.working c.args.n ≡ Some r = ap (λ (v : Tables × Meaning). place v.0.working c.args.n) c.self.view_is ∙ c.in_ok-root.ensures.2 in
-    editable t i.store.0 i.store.1 c.self.invariant c.args.n r at c.in_ok-root.ensures.1
+    let at : place t.working c.args.n ≡ Some r = ap (λ (v : Tables × Meaning). place v.0.working c.args.n) c.self.view_is ∙ c.in_ok-root.ensures.1.1 in
+    editable t i.store.0 i.store.1 c.self.invariant c.args.n r at c.in_ok-root.ensures.1.0
 
 -- the row, as the call names it
 there : (t : Tables) (q q' : State) (K : Kept t q) (n : ℕ) (r r' : Root) (s v speed : ℕ) (angle : ℤ) → n < 24 → place t.working n ≡ Some r → s ≡ speed → v ≡ payload_of angle
@@ -69,10 +69,10 @@ invariant_of-self g c =
     let i = c.self.inside in
     let t : Tables = tables i.working i.committed i.generation in
     let r : Root = (c.in_ok-root.root.height, c.in_ok-root.root.block) in
-    let at : place t.working c.args.n ≡ Some r = ap (λ (v : Tables × Meaning). place v.0.working c.args.n) c.self.view_is ∙ c.in_ok-root.ensures.2 in
+    let at : place t.working c.args.n ≡ Some r = ap (λ (v : Tables × Meaning). place v.0.working c.args.n) c.self.view_is ∙ c.in_ok-root.ensures.1.1 in
     let e = c.put_tree.ensures in
-    let T = there t i.store c.put_tree.new.store c.self.invariant c.args.n r (c.put_tree.result.height, c.put_tree.result.block) _ _ c.args.speed c.args.angle c.in_ok-root.ensures.1 at c.in_ok-root.ensures.3
-    (c.payload.ensures ∙ ap payload_of (c.in_ok-root.ensures.4 ∙ to_z-of_z w32 c.args.angle c.ranges.angle)) e.edited e.root e.good in
+    let T = there t i.store c.put_tree.new.store c.self.invariant c.args.n r (c.put_tree.result.height, c.put_tree.result.block) _ _ c.args.speed c.args.angle c.in_ok-root.ensures.1.0 at c.in_ok-root.ensures.2
+    (c.payload.ensures ∙ ap payload_of (c.in_ok-root.ensures.3 ∙ to_z-of_z w32 c.args.angle c.ranges.angle)) e.edited e.root e.good in
     subst (λ t. Kept t c.put_tree.new.store) (sym (tables_set i.working i.committed i.generation c.args.n (Some c.put_tree.result))) T.kept
 
 pub returns : goal.returns
@@ -82,10 +82,10 @@ returns g c =
     let r : Root = (c.in_ok-root.root.height, c.in_ok-root.root.block) in
     let r' : Root = (c.put_tree.result.height, c.put_tree.result.block) in
     let q : State = c.put_tree.new.store in
-    let at : place t.working c.args.n ≡ Some r = ap (λ (v : Tables × Meaning). place v.0.working c.args.n) c.self.view_is ∙ c.in_ok-root.ensures.2 in
+    let at : place t.working c.args.n ≡ Some r = ap (λ (v : Tables × Meaning). place v.0.working c.args.n) c.self.view_is ∙ c.in_ok-root.ensures.1.1 in
     let e = c.put_tree.ensures in
-    let T = there t i.store q c.self.invariant c.args.n r r' _ _ c.args.speed c.args.angle c.in_ok-root.ensures.1 at c.in_ok-root.ensures.3
-    (c.payload.ensures ∙ ap payload_of (c.in_ok-root.ensures.4 ∙ to_z-of_z w32 c.args.angle c.ranges.angle)) e.edited e.root e.good in
+    let T = there t i.store q c.self.invariant c.args.n r r' _ _ c.args.speed c.args.angle c.in_ok-root.ensures.1.0 at c.in_ok-root.ensures.2
+    (c.payload.ensures ∙ ap payload_of (c.in_ok-root.ensures.3 ∙ to_z-of_z w32 c.args.angle c.ranges.angle)) e.edited e.root e.good in
     let l : late (shape t i.store.0) (put c.args.n c.args.speed c.args.angle) ≡ None
     = ap (λ (h : ℕ). needs (shape t i.store.0) c.args.n (2 * h + 1)) (high t i.store.0 i.store.1 c.self.invariant c.args.n r at)
     ∙ needs_is t i.store.0 i.store.1 c.self.invariant c.args.n (2 * r.0 + 1) ∙ c.in_ok-grant.ensures.0 in

@@ -11,7 +11,7 @@ use Rattle.model.specs.Plain.{early, has, place}
 use Rattle.model.specs.Model.{height, needs}
 use Rattle.model.specs.TreeBlocks.{Change.takes, changed_on, tree_at, root_of as top_of, Good}
 use Rattle.model.specs.World.{Tables, placed, shape}
-use Rattle.volume.specs.Kept.{tables, Kept, Called, lacking, rows_of_clone}
+use Rattle.volume.specs.Kept.{tables, Kept, Called, lacking_in, rows_of_clone}
 use Rattle.volume.proofs.Asking.{denied_early}
 use Rattle.volume.proofs.Calls.{tables_set}
 use Rattle.volume.proofs.Clones.{good}
@@ -31,7 +31,7 @@ get-requires g c =
     let i = c.self.inside in
     let t : Tables = tables i.working i.committed i.generation in
     let r : Root = (c.in_ok-root.root.height, c.in_ok-root.root.block) in
-    good t i.store c.self.invariant c.args.n r (ap (λ (v : Tables × Meaning). place v.0.working c.args.n) c.self.view_is ∙ c.in_ok-root.ensures.3) c.in_ok-root.ensures.1
+    good t i.store c.self.invariant c.args.n r (ap (λ (v : Tables × Meaning). place v.0.working c.args.n) c.self.view_is ∙ c.in_ok-root.ensures.1.1) c.in_ok-root.ensures.1.0
 
 pub returns-in_default : goal.returns-in_default
 returns-in_default g c =
@@ -39,7 +39,7 @@ returns-in_default g c =
     let t : Tables = tables i.working i.committed i.generation in
     let v : Tables × Meaning = (t, i.store.0) in
     let r : Root = (c.in_ok-root.root.height, c.in_ok-root.root.block) in
-    let at : place t.working c.args.n ≡ Some r = ap (λ (v : Tables × Meaning). place v.0.working c.args.n) c.self.view_is ∙ c.in_ok-root.ensures.3 in
+    let at : place t.working c.args.n ≡ Some r = ap (λ (v : Tables × Meaning). place v.0.working c.args.n) c.self.view_is ∙ c.in_ok-root.ensures.1.1 in
     let d = removed_none v c.args.n c.args.speed (ap (λ (v : Tables × Meaning). early (has v.0.working) (remove c.args.n c.args.speed)) c.self.view_is ∙ c.in_ok-root.ensures.0)
     None refl (c.in_default.ensures.answer ∙ ap (look c.args.speed) (sym (clone_rows v c.args.n r at))) (t, c.get.new.store.0) (ap (λ (q : State). (t, q.0)) c.get.ensures.kept) in
     subst (λ (v : Tables × Meaning). Called (remove c.args.n c.args.speed) (look c.args.speed (rows_of_clone v c.args.n)) v (Ok None) (t, c.get.new.store.0)) c.self.view_is d
@@ -49,8 +49,8 @@ reserve-requires-clause-few g c =
     let i = c.self.inside in
     let t : Tables = tables i.working i.committed i.generation in
     let r : Root = (c.in_ok-root.root.height, c.in_ok-root.root.block) in
-    let at : place t.working c.args.n ≡ Some r = ap (λ (v : Tables × Meaning). place v.0.working c.args.n) c.self.view_is ∙ c.in_ok-root.ensures.3 in
-    omega (arith, good_low (blocks_of i.store.0) (current_at i.store.0) r (good t i.store c.self.invariant c.args.n r at c.in_ok-root.ensures.1))
+    let at : place t.working c.args.n ≡ Some r = ap (λ (v : Tables × Meaning). place v.0.working c.args.n) c.self.view_is ∙ c.in_ok-root.ensures.1.1 in
+    omega (arith, good_low (blocks_of i.store.0) (current_at i.store.0) r (good t i.store c.self.invariant c.args.n r at c.in_ok-root.ensures.1.0))
 
 pub returns-in_err-grant : goal.returns-in_err-grant
 returns-in_err-grant g c =
@@ -58,10 +58,10 @@ returns-in_err-grant g c =
     let t : Tables = tables i.working i.committed i.generation in
     let v : Tables × Meaning = (t, i.store.0) in
     let r : Root = (c.in_ok-root.root.height, c.in_ok-root.root.block) in
-    let at : place t.working c.args.n ≡ Some r = ap (λ (v : Tables × Meaning). place v.0.working c.args.n) c.self.view_is ∙ c.in_ok-root.ensures.3 in
+    let at : place t.working c.args.n ≡ Some r = ap (λ (v : Tables × Meaning). place v.0.working c.args.n) c.self.view_is ∙ c.in_ok-root.ensures.1.1 in
     let l : needs (shape t i.store.0) c.args.n (2 * height (shape t i.store.0) c.args.n + 1) ≡ Some c.in_err-grant.field-0.0
     = ap (λ (h : ℕ). needs (shape t i.store.0) c.args.n (2 * h + 1)) (high t i.store.0 i.store.1 c.self.invariant c.args.n r at)
-    ∙ needs_is t i.store.0 i.store.1 c.self.invariant c.args.n (2 * r.0 + 1) ∙ ap (λ (q : State). lacking q c.args.n (2 * r.0 + 1)) (sym c.get.ensures.kept) ∙ c.in_err-grant.ensures in
+    ∙ needs_is t i.store.0 i.store.1 c.self.invariant c.args.n (2 * r.0 + 1) ∙ ap (λ (q : State). lacking_in q c.args.n (2 * r.0 + 1)) (sym c.get.ensures.kept) ∙ c.in_err-grant.ensures in
     let d = removed_late v c.args.n c.args.speed (ap (λ (v : Tables × Meaning). early (has v.0.working) (remove c.args.n c.args.speed)) c.self.view_is ∙ c.in_ok-root.ensures.0)
     c.in-Some.angle (c.in-Some.ensures.answer ∙ ap (look c.args.speed) (sym (clone_rows v c.args.n r at))) c.in_err-grant.field-0.0 l in
     let d₁ = subst (λ (v : Tables × Meaning). Called (remove c.args.n c.args.speed) (look c.args.speed (rows_of_clone v c.args.n)) v (Err c.in_err-grant.field-0.0) (t, i.store.0)) c.self.view_is d in
@@ -73,8 +73,8 @@ remove_tree-requires-clause-editable g c =
     let i = c.self.inside in
     let t : Tables = tables i.working i.committed i.generation in
     let r : Root = (c.in_ok-root.root.height, c.in_ok-root.root.block) in
-    let at : place t.working c.args.n ≡ Some r = ap (λ (v : Tables × Meaning). place v.0.working c.args.n) c.self.view_is ∙ c.in_ok-root.ensures.3 in
-    subst (λ (q : State). Editable q.0 q.1 r) (sym c.get.ensures.kept) (editable t i.store.0 i.store.1 c.self.invariant c.args.n r at c.in_ok-root.ensures.1)
+    let at : place t.working c.args.n ≡ Some r = ap (λ (v : Tables × Meaning). place v.0.working c.args.n) c.self.view_is ∙ c.in_ok-root.ensures.1.1 in
+    subst (λ (q : State). Editable q.0 q.1 r) (sym c.get.ensures.kept) (editable t i.store.0 i.store.1 c.self.invariant c.args.n r at c.in_ok-root.ensures.1.0)
 
 -- the tree without the row, in the clone's place
 there : (t : Tables) (q p q' : State) (K : Kept t q) (n : ℕ) (r r' : Root) (s : ℕ) → n < 24 → place t.working n ≡ Some r → p ≡ q
@@ -89,9 +89,9 @@ invariant_of-self-2 g c =
     let i = c.self.inside in
     let t : Tables = tables i.working i.committed i.generation in
     let r : Root = (c.in_ok-root.root.height, c.in_ok-root.root.block) in
-    let at : place t.working c.args.n ≡ Some r = ap (λ (v : Tables × Meaning). place v.0.working c.args.n) c.self.view_is ∙ c.in_ok-root.ensures.3 in
+    let at : place t.working c.args.n ≡ Some r = ap (λ (v : Tables × Meaning). place v.0.working c.args.n) c.self.view_is ∙ c.in_ok-root.ensures.1.1 in
     let e = c.remove_tree.ensures in
-    let T = there t i.store c.get.new.store c.remove_tree.new.store c.self.invariant c.args.n r (c.remove_tree.result.height, c.remove_tree.result.block) c.args.speed c.in_ok-root.ensures.1 at c.get.ensures.kept e.edited e.root e.good in
+    let T = there t i.store c.get.new.store c.remove_tree.new.store c.self.invariant c.args.n r (c.remove_tree.result.height, c.remove_tree.result.block) c.args.speed c.in_ok-root.ensures.1.0 at c.get.ensures.kept e.edited e.root e.good in
     subst (λ t. Kept t c.remove_tree.new.store) (sym (tables_set i.working i.committed i.generation c.args.n (Some c.remove_tree.result))) T.kept
 
 pub returns : goal.returns
@@ -102,12 +102,12 @@ returns g c =
     let r : Root = (c.in_ok-root.root.height, c.in_ok-root.root.block) in
     let r' : Root = (c.remove_tree.result.height, c.remove_tree.result.block) in
     let q : State = c.remove_tree.new.store in
-    let at : place t.working c.args.n ≡ Some r = ap (λ (v : Tables × Meaning). place v.0.working c.args.n) c.self.view_is ∙ c.in_ok-root.ensures.3 in
+    let at : place t.working c.args.n ≡ Some r = ap (λ (v : Tables × Meaning). place v.0.working c.args.n) c.self.view_is ∙ c.in_ok-root.ensures.1.1 in
     let e = c.remove_tree.ensures in
-    let T = there t i.store c.get.new.store q c.self.invariant c.args.n r r' c.args.speed c.in_ok-root.ensures.1 at c.get.ensures.kept e.edited e.root e.good in
+    let T = there t i.store c.get.new.store q c.self.invariant c.args.n r r' c.args.speed c.in_ok-root.ensures.1.0 at c.get.ensures.kept e.edited e.root e.good in
     let l : needs (shape t i.store.0) c.args.n (2 * height (shape t i.store.0) c.args.n + 1) ≡ None
     = ap (λ (h : ℕ). needs (shape t i.store.0) c.args.n (2 * h + 1)) (high t i.store.0 i.store.1 c.self.invariant c.args.n r at)
-    ∙ needs_is t i.store.0 i.store.1 c.self.invariant c.args.n (2 * r.0 + 1) ∙ ap (λ (q : State). lacking q c.args.n (2 * r.0 + 1)) (sym c.get.ensures.kept) ∙ c.in_ok-grant.ensures.0 in
+    ∙ needs_is t i.store.0 i.store.1 c.self.invariant c.args.n (2 * r.0 + 1) ∙ ap (λ (q : State). lacking_in q c.args.n (2 * r.0 + 1)) (sym c.get.ensures.kept) ∙ c.in_ok-grant.ensures.0 in
     let a = c.in-Some.angle in
     let d = removed_row v c.args.n c.args.speed (ap (λ (v : Tables × Meaning). early (has v.0.working) (remove c.args.n c.args.speed)) c.self.view_is ∙ c.in_ok-root.ensures.0)
     a (c.in-Some.ensures.answer ∙ ap (look c.args.speed) (sym (clone_rows v c.args.n r at))) l T.os (placed t (set t.working c.args.n (Some r'))) q.0 T.trace T.effect in
