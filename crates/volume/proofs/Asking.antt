@@ -4,12 +4,20 @@ use mathlib.Core.Path.{fun_ext}
 use Rattle.std.specs.Option.{option_or}
 use Rattle.device.specs.Meaning.{Meaning}
 use Rattle.device.specs.Cuts.{Op, replay}
+use Rattle.page.specs.Slot.{Root}
 use Rattle.model.specs.declared.refusal.Refusal.{Refusal}
-use Rattle.model.specs.Plain.{Ask, has, early}
+use Rattle.model.specs.Plain.{Ask, has, early, place}
 use Rattle.model.specs.Model.{refusal, late}
 use Rattle.model.specs.World.{Tables, Mode, Mode.mounted, shape, Quiet, Effect, Asked}
 use Rattle.model.proofs.Grants.{has_shape}
 use Rattle.volume.specs.Kept.{Called}
+
+-- what holds of a volume holds of how it is made
+pub placed_here : {u v : Tables × Meaning} {o : Option Root} (n : ℕ) → v ≡ u → place u.0.working n ≡ o → place v.0.working n ≡ o
+placed_here n same spot = ap (λ (v : Tables × Meaning). place v.0.working n) same ∙ spot
+
+pub early_here : {u v : Tables × Meaning} {o : Option Refusal} (q : Ask) → v ≡ u → early (has u.0.working) q ≡ o → early (has v.0.working) q ≡ o
+early_here q same is = ap (λ (v : Tables × Meaning). early (has v.0.working) q) same ∙ is
 
 module _ {X : Type 0} (t : Tables) (m : Meaning) (q : Ask) (x : X) where
   outcome : (o : Option Refusal) (r : Result X Refusal) (os : List Op) (w : Mode) (m' : Meaning) → refusal (shape t m) q ≡ o

@@ -1,13 +1,13 @@
-use Rattle.std.proofs.Common.{rules, ◌≡◌, set, Some, None, Ok, Err, sym, ap, ◌∙◌, subst}
+use Rattle.std.proofs.Common.{rules, ◌≡◌, set, Some, None, Ok, Err, sym, ◌∙◌, subst}
 use Rattle.device.specs.Meaning.{Meaning}
 use Rattle.counts.specs.Moves.{State}
 use Rattle.page.specs.Slot.{Root}
 use Rattle.model.specs.Plain.Ask.{create}
-use Rattle.model.specs.Plain.{early, has, place}
+use Rattle.model.specs.Plain.{place}
 use Rattle.model.specs.TreeBlocks.{Change.begin}
 use Rattle.model.specs.World.{Tables, placed}
 use Rattle.volume.specs.Kept.{tables, Kept, Called}
-use Rattle.volume.proofs.Asking.{denied_early, denied_late, accepted}
+use Rattle.volume.proofs.Asking.{denied_early, denied_late, accepted, placed_here, early_here}
 use Rattle.volume.proofs.Calls.{tables_set}
 use Rattle.volume.proofs.Changing.{needs_is, vacant, changed_there, sound_there}
 use Rattle.volume.proofs.Volume.create.Goals as goal
@@ -21,7 +21,7 @@ pub returns-in_err-grant : goal.returns-in_err-grant
 returns-in_err-grant g c =
     let i = c.self.inside in
     let t : Tables = tables i.working i.committed i.generation in
-    let d = denied_late t i.store.0 (create c.args.n) (tt {0}) c.in_err-grant.field-0.0 (ap (λ (v : Tables × Meaning). early (has v.0.working) (create c.args.n)) c.self.view_is ∙ c.in_ok-check_vacant.ensures.0)
+    let d = denied_late t i.store.0 (create c.args.n) (tt {0}) c.in_err-grant.field-0.0 (early_here (create c.args.n) c.self.view_is c.in_ok-check_vacant.ensures.0)
     (needs_is t i.store.0 i.store.1 c.self.invariant c.args.n 1 ∙ c.in_err-grant.ensures) in
     let d' = subst (λ (v : Tables × Meaning). Called (create c.args.n) (tt {0}) v (Err c.in_err-grant.field-0.0) v) c.self.view_is d in
     search rules
@@ -30,7 +30,7 @@ pub invariant_of-self : goal.invariant_of-self
 invariant_of-self g c =
     let i = c.self.inside in
     let t : Tables = tables i.working i.committed i.generation in
-    let none : place t.working c.args.n ≡ None = ap (λ (v : Tables × Meaning). place v.0.working c.args.n) c.self.view_is ∙ c.in_ok-check_vacant.ensures.2 in
+    let none : place t.working c.args.n ≡ None = placed_here c.args.n c.self.view_is c.in_ok-check_vacant.ensures.2 in
     let r : Root = (c.create_tree-root.result.height, c.create_tree-root.result.block) in
     let e = c.create_tree-root.ensures in
     let k : Kept (placed t (set t.working c.args.n (Some r))) c.create_tree-root.new.store
@@ -43,11 +43,11 @@ returns g c =
     let i = c.self.inside in
     let t : Tables = tables i.working i.committed i.generation in
     let q : State = c.create_tree-root.new.store in
-    let none : place t.working c.args.n ≡ None = ap (λ (v : Tables × Meaning). place v.0.working c.args.n) c.self.view_is ∙ c.in_ok-check_vacant.ensures.2 in
+    let none : place t.working c.args.n ≡ None = placed_here c.args.n c.self.view_is c.in_ok-check_vacant.ensures.2 in
     let r : Root = (c.create_tree-root.result.height, c.create_tree-root.result.block) in
     let e = c.create_tree-root.ensures in
     let d : Called (create c.args.n) (tt {0}) (t, i.store.0) (Ok (tt {0})) (placed t (set t.working c.args.n (Some r)), q.0)
-    = accepted t i.store.0 (create c.args.n) (tt {0}) (ap (λ (v : Tables × Meaning). early (has v.0.working) (create c.args.n)) c.self.view_is ∙ c.in_ok-check_vacant.ensures.0)
+    = accepted t i.store.0 (create c.args.n) (tt {0}) (early_here (create c.args.n) c.self.view_is c.in_ok-check_vacant.ensures.0)
     (needs_is t i.store.0 i.store.1 c.self.invariant c.args.n 1 ∙ c.in_ok-grant.ensures.0) e.edited.os (placed t (set t.working c.args.n (Some r))) q.0 e.edited.trace
     (changed_there t i.store.0 i.store.1 c.self.invariant c.args.n c.in_ok-check_vacant.ensures.1 begin (vacant t i.store.0 i.store.1 c.self.invariant c.args.n c.in_ok-check_vacant.ensures.1 none)
     q.0 q.1 r e.edited e.root e.good) in

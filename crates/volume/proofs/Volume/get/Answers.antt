@@ -1,13 +1,11 @@
-use Rattle.std.proofs.Common.{refl, rules, ap, ◌∙◌}
-use Rattle.device.specs.Meaning.{Meaning}
+use Rattle.std.proofs.Common.{refl, rules, ap}
 use Rattle.counts.specs.Moves.{State}
 use Rattle.page.specs.Slot.{Root}
 use Rattle.tree.specs.Reads.{look}
 use Rattle.model.specs.Plain.Ask.{get}
-use Rattle.model.specs.Plain.{place}
 use Rattle.model.specs.World.{Tables}
 use Rattle.volume.specs.Kept.{tables, rows_of_clone}
-use Rattle.volume.proofs.Asking.{denied_early}
+use Rattle.volume.proofs.Asking.{denied_early, placed_here}
 use Rattle.volume.proofs.Clones.{good}
 use Rattle.volume.proofs.Reading.{read_called}
 use Rattle.volume.proofs.Volume.get.Goals as goal
@@ -22,7 +20,7 @@ get-requires g c =
     let i = c.self.inside in
     let t : Tables = tables i.working i.committed i.generation in
     let r : Root = (c.in_ok-root.root.height, c.in_ok-root.root.block) in
-    good t i.store c.self.invariant c.args.n r (ap (λ (v : Tables × Meaning). place v.0.working c.args.n) c.self.view_is ∙ c.in_ok-root.ensures.1.1) c.in_ok-root.ensures.1.0
+    good t i.store c.self.invariant c.args.n r (placed_here c.args.n c.self.view_is c.in_ok-root.ensures.1.1) c.in_ok-root.ensures.1.0
 
 pub returns : goal.returns
 returns g c =

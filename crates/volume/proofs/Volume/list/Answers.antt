@@ -3,10 +3,10 @@ use Rattle.device.specs.Meaning.{Meaning}
 use Rattle.counts.specs.Moves.{State}
 use Rattle.page.specs.Slot.{Root}
 use Rattle.model.specs.Plain.Ask.{rows}
-use Rattle.model.specs.Plain.{Map, from, place}
+use Rattle.model.specs.Plain.{Map, from}
 use Rattle.model.specs.World.{Tables}
 use Rattle.volume.specs.Kept.{tables, rows_of_clone}
-use Rattle.volume.proofs.Asking.{denied_early}
+use Rattle.volume.proofs.Asking.{denied_early, placed_here}
 use Rattle.volume.proofs.Clones.{good}
 use Rattle.volume.proofs.Reading.{clone_rows, read_called}
 use Rattle.volume.proofs.Volume.list.Goals as goal
@@ -22,7 +22,7 @@ list-requires g c =
     let i = c.self.inside in
     let t : Tables = tables i.working i.committed i.generation in
     let r : Root = (c.in_ok-root.root.height, c.in_ok-root.root.block) in
-    good t i.store c.self.invariant c.args.n r (ap (λ (v : Tables × Meaning). place v.0.working c.args.n) c.self.view_is ∙ c.in_ok-root.ensures.1.1) c.in_ok-root.ensures.1.0
+    good t i.store c.self.invariant c.args.n r (placed_here c.args.n c.self.view_is c.in_ok-root.ensures.1.1) c.in_ok-root.ensures.1.0
 
 pub returns-clause-call : goal.returns-clause-call
 returns-clause-call g c =
@@ -39,5 +39,5 @@ returns-clause-listed g c =
     let r : Root = (c.in_ok-root.root.height, c.in_ok-root.root.block) in
     let v : Tables × Meaning = (t, i.store.0) in
     let is : rows_of_clone c.args.self.now c.args.n ≡ _ = ap (λ (v : Tables × Meaning). rows_of_clone v c.args.n) (sym c.self.view_is)
-    ∙ clone_rows v c.args.n r (ap (λ (v : Tables × Meaning). place v.0.working c.args.n) c.self.view_is ∙ c.in_ok-root.ensures.1.1) in
+    ∙ clone_rows v c.args.n r (placed_here c.args.n c.self.view_is c.in_ok-root.ensures.1.1) in
     (c.list.ensures.listed ∙ ap (λ (rs : Map). take (length c.args.out.now) (from c.args.speed rs)) (sym is), c.list.ensures.rest)

@@ -12,7 +12,7 @@ use Rattle.table.specs.Rows.{payload_of}
 use Rattle.model.specs.TreeBlocks.{Change.puts, changed_on, tree_at, root_of as top_of, Good}
 use Rattle.model.specs.World.{Tables, placed, shape}
 use Rattle.volume.specs.Kept.{tables, Kept, Called}
-use Rattle.volume.proofs.Asking.{denied_early, denied_late, accepted}
+use Rattle.volume.proofs.Asking.{denied_early, denied_late, accepted, placed_here}
 use Rattle.volume.proofs.Calls.{tables_set}
 use Rattle.volume.proofs.Clones.{good}
 use Rattle.model.proofs.Grants.{good_low}
@@ -30,7 +30,7 @@ reserve-requires-clause-few g c =
     let i = c.self.inside in
     let t : Tables = tables i.working i.committed i.generation in
     let r : Root = (c.in_ok-root.root.height, c.in_ok-root.root.block) in
-    let at : place t.working c.args.n ≡ Some r = ap (λ (v : Tables × Meaning). place v.0.working c.args.n) c.self.view_is ∙ c.in_ok-root.ensures.1.1 in
+    let at : place t.working c.args.n ≡ Some r = placed_here c.args.n c.self.view_is c.in_ok-root.ensures.1.1 in
     omega (arith, good_low (blocks_of i.store.0) (current_at i.store.0) r (good t i.store c.self.invariant c.args.n r at c.in_ok-root.ensures.1.0))
 
 pub returns-in_err-grant : goal.returns-in_err-grant
@@ -38,7 +38,7 @@ returns-in_err-grant g c =
     let i = c.self.inside in
     let t : Tables = tables i.working i.committed i.generation in
     let r : Root = (c.in_ok-root.root.height, c.in_ok-root.root.block) in
-    let at : place t.working c.args.n ≡ Some r = ap (λ (v : Tables × Meaning). place v.0.working c.args.n) c.self.view_is ∙ c.in_ok-root.ensures.1.1 in
+    let at : place t.working c.args.n ≡ Some r = placed_here c.args.n c.self.view_is c.in_ok-root.ensures.1.1 in
     let l : late (shape t i.store.0) (put c.args.n c.args.speed c.args.angle) ≡ Some c.in_err-grant.field-0.0
     = ap (λ (h : ℕ). needs (shape t i.store.0) c.args.n (2 * h + 1)) (high t i.store.0 i.store.1 c.self.invariant c.args.n r at)
     ∙ needs_is t i.store.0 i.store.1 c.self.invariant c.args.n (2 * r.0 + 1) ∙ c.in_err-grant.ensures in
@@ -53,7 +53,7 @@ put_tree-requires-clause-editable g c =
     let i = c.self.inside in
     let t : Tables = tables i.working i.committed i.generation in
     let r : Root = (c.in_ok-root.root.height, c.in_ok-root.root.block) in
-    let at : place t.working c.args.n ≡ Some r = ap (λ (v : Tables × Meaning). place v.0.working c.args.n) c.self.view_is ∙ c.in_ok-root.ensures.1.1 in
+    let at : place t.working c.args.n ≡ Some r = placed_here c.args.n c.self.view_is c.in_ok-root.ensures.1.1 in
     editable t i.store.0 i.store.1 c.self.invariant c.args.n r at c.in_ok-root.ensures.1.0
 
 -- the row, as the call names it
@@ -69,7 +69,7 @@ invariant_of-self g c =
     let i = c.self.inside in
     let t : Tables = tables i.working i.committed i.generation in
     let r : Root = (c.in_ok-root.root.height, c.in_ok-root.root.block) in
-    let at : place t.working c.args.n ≡ Some r = ap (λ (v : Tables × Meaning). place v.0.working c.args.n) c.self.view_is ∙ c.in_ok-root.ensures.1.1 in
+    let at : place t.working c.args.n ≡ Some r = placed_here c.args.n c.self.view_is c.in_ok-root.ensures.1.1 in
     let e = c.put_tree.ensures in
     let T = there t i.store c.put_tree.new.store c.self.invariant c.args.n r (c.put_tree.result.height, c.put_tree.result.block) _ _ c.args.speed c.args.angle c.in_ok-root.ensures.1.0 at c.in_ok-root.ensures.2
     (c.payload.ensures ∙ ap payload_of (c.in_ok-root.ensures.3 ∙ to_z-of_z w32 c.args.angle c.ranges.angle)) e.edited e.root e.good in
@@ -82,7 +82,7 @@ returns g c =
     let r : Root = (c.in_ok-root.root.height, c.in_ok-root.root.block) in
     let r' : Root = (c.put_tree.result.height, c.put_tree.result.block) in
     let q : State = c.put_tree.new.store in
-    let at : place t.working c.args.n ≡ Some r = ap (λ (v : Tables × Meaning). place v.0.working c.args.n) c.self.view_is ∙ c.in_ok-root.ensures.1.1 in
+    let at : place t.working c.args.n ≡ Some r = placed_here c.args.n c.self.view_is c.in_ok-root.ensures.1.1 in
     let e = c.put_tree.ensures in
     let T = there t i.store q c.self.invariant c.args.n r r' _ _ c.args.speed c.args.angle c.in_ok-root.ensures.1.0 at c.in_ok-root.ensures.2
     (c.payload.ensures ∙ ap payload_of (c.in_ok-root.ensures.3 ∙ to_z-of_z w32 c.args.angle c.ranges.angle)) e.edited e.root e.good in

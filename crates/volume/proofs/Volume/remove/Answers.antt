@@ -7,12 +7,12 @@ use Rattle.page.specs.Slot.{Root}
 use Rattle.edit.specs.Edited.{Edited, Editable}
 use Rattle.tree.specs.Reads.{look}
 use Rattle.model.specs.Plain.Ask.{remove}
-use Rattle.model.specs.Plain.{early, has, place}
+use Rattle.model.specs.Plain.{place}
 use Rattle.model.specs.Model.{height, needs}
 use Rattle.model.specs.TreeBlocks.{Change.takes, changed_on, tree_at, root_of as top_of, Good}
 use Rattle.model.specs.World.{Tables, placed, shape}
 use Rattle.volume.specs.Kept.{tables, Kept, Called, lacking_in, rows_of_clone}
-use Rattle.volume.proofs.Asking.{denied_early}
+use Rattle.volume.proofs.Asking.{denied_early, placed_here, early_here}
 use Rattle.volume.proofs.Calls.{tables_set}
 use Rattle.volume.proofs.Clones.{good}
 use Rattle.volume.proofs.Reading.{clone_rows}
@@ -31,7 +31,7 @@ get-requires g c =
     let i = c.self.inside in
     let t : Tables = tables i.working i.committed i.generation in
     let r : Root = (c.in_ok-root.root.height, c.in_ok-root.root.block) in
-    good t i.store c.self.invariant c.args.n r (ap (λ (v : Tables × Meaning). place v.0.working c.args.n) c.self.view_is ∙ c.in_ok-root.ensures.1.1) c.in_ok-root.ensures.1.0
+    good t i.store c.self.invariant c.args.n r (placed_here c.args.n c.self.view_is c.in_ok-root.ensures.1.1) c.in_ok-root.ensures.1.0
 
 pub returns-in_default : goal.returns-in_default
 returns-in_default g c =
@@ -39,8 +39,8 @@ returns-in_default g c =
     let t : Tables = tables i.working i.committed i.generation in
     let v : Tables × Meaning = (t, i.store.0) in
     let r : Root = (c.in_ok-root.root.height, c.in_ok-root.root.block) in
-    let at : place t.working c.args.n ≡ Some r = ap (λ (v : Tables × Meaning). place v.0.working c.args.n) c.self.view_is ∙ c.in_ok-root.ensures.1.1 in
-    let d = removed_none v c.args.n c.args.speed (ap (λ (v : Tables × Meaning). early (has v.0.working) (remove c.args.n c.args.speed)) c.self.view_is ∙ c.in_ok-root.ensures.0)
+    let at : place t.working c.args.n ≡ Some r = placed_here c.args.n c.self.view_is c.in_ok-root.ensures.1.1 in
+    let d = removed_none v c.args.n c.args.speed (early_here (remove c.args.n c.args.speed) c.self.view_is c.in_ok-root.ensures.0)
     None refl (c.in_default.ensures.answer ∙ ap (look c.args.speed) (sym (clone_rows v c.args.n r at))) (t, c.get.new.store.0) (ap (λ (q : State). (t, q.0)) c.get.ensures.kept) in
     subst (λ (v : Tables × Meaning). Called (remove c.args.n c.args.speed) (look c.args.speed (rows_of_clone v c.args.n)) v (Ok None) (t, c.get.new.store.0)) c.self.view_is d
 
@@ -49,7 +49,7 @@ reserve-requires-clause-few g c =
     let i = c.self.inside in
     let t : Tables = tables i.working i.committed i.generation in
     let r : Root = (c.in_ok-root.root.height, c.in_ok-root.root.block) in
-    let at : place t.working c.args.n ≡ Some r = ap (λ (v : Tables × Meaning). place v.0.working c.args.n) c.self.view_is ∙ c.in_ok-root.ensures.1.1 in
+    let at : place t.working c.args.n ≡ Some r = placed_here c.args.n c.self.view_is c.in_ok-root.ensures.1.1 in
     omega (arith, good_low (blocks_of i.store.0) (current_at i.store.0) r (good t i.store c.self.invariant c.args.n r at c.in_ok-root.ensures.1.0))
 
 pub returns-in_err-grant : goal.returns-in_err-grant
@@ -58,11 +58,11 @@ returns-in_err-grant g c =
     let t : Tables = tables i.working i.committed i.generation in
     let v : Tables × Meaning = (t, i.store.0) in
     let r : Root = (c.in_ok-root.root.height, c.in_ok-root.root.block) in
-    let at : place t.working c.args.n ≡ Some r = ap (λ (v : Tables × Meaning). place v.0.working c.args.n) c.self.view_is ∙ c.in_ok-root.ensures.1.1 in
+    let at : place t.working c.args.n ≡ Some r = placed_here c.args.n c.self.view_is c.in_ok-root.ensures.1.1 in
     let l : needs (shape t i.store.0) c.args.n (2 * height (shape t i.store.0) c.args.n + 1) ≡ Some c.in_err-grant.field-0.0
     = ap (λ (h : ℕ). needs (shape t i.store.0) c.args.n (2 * h + 1)) (high t i.store.0 i.store.1 c.self.invariant c.args.n r at)
     ∙ needs_is t i.store.0 i.store.1 c.self.invariant c.args.n (2 * r.0 + 1) ∙ ap (λ (q : State). lacking_in q c.args.n (2 * r.0 + 1)) (sym c.get.ensures.kept) ∙ c.in_err-grant.ensures in
-    let d = removed_late v c.args.n c.args.speed (ap (λ (v : Tables × Meaning). early (has v.0.working) (remove c.args.n c.args.speed)) c.self.view_is ∙ c.in_ok-root.ensures.0)
+    let d = removed_late v c.args.n c.args.speed (early_here (remove c.args.n c.args.speed) c.self.view_is c.in_ok-root.ensures.0)
     c.in-Some.angle (c.in-Some.ensures.answer ∙ ap (look c.args.speed) (sym (clone_rows v c.args.n r at))) c.in_err-grant.field-0.0 l in
     let d₁ = subst (λ (v : Tables × Meaning). Called (remove c.args.n c.args.speed) (look c.args.speed (rows_of_clone v c.args.n)) v (Err c.in_err-grant.field-0.0) (t, i.store.0)) c.self.view_is d in
     let d₂ = subst (λ (q : State). Called (remove c.args.n c.args.speed) (look c.args.speed (rows_of_clone c.args.self.now c.args.n)) c.args.self.now (Err c.in_err-grant.field-0.0) (t, q.0)) (sym c.get.ensures.kept) d₁ in
@@ -73,7 +73,7 @@ remove_tree-requires-clause-editable g c =
     let i = c.self.inside in
     let t : Tables = tables i.working i.committed i.generation in
     let r : Root = (c.in_ok-root.root.height, c.in_ok-root.root.block) in
-    let at : place t.working c.args.n ≡ Some r = ap (λ (v : Tables × Meaning). place v.0.working c.args.n) c.self.view_is ∙ c.in_ok-root.ensures.1.1 in
+    let at : place t.working c.args.n ≡ Some r = placed_here c.args.n c.self.view_is c.in_ok-root.ensures.1.1 in
     subst (λ (q : State). Editable q.0 q.1 r) (sym c.get.ensures.kept) (editable t i.store.0 i.store.1 c.self.invariant c.args.n r at c.in_ok-root.ensures.1.0)
 
 -- the tree without the row, in the clone's place
@@ -89,7 +89,7 @@ invariant_of-self-2 g c =
     let i = c.self.inside in
     let t : Tables = tables i.working i.committed i.generation in
     let r : Root = (c.in_ok-root.root.height, c.in_ok-root.root.block) in
-    let at : place t.working c.args.n ≡ Some r = ap (λ (v : Tables × Meaning). place v.0.working c.args.n) c.self.view_is ∙ c.in_ok-root.ensures.1.1 in
+    let at : place t.working c.args.n ≡ Some r = placed_here c.args.n c.self.view_is c.in_ok-root.ensures.1.1 in
     let e = c.remove_tree.ensures in
     let T = there t i.store c.get.new.store c.remove_tree.new.store c.self.invariant c.args.n r (c.remove_tree.result.height, c.remove_tree.result.block) c.args.speed c.in_ok-root.ensures.1.0 at c.get.ensures.kept e.edited e.root e.good in
     subst (λ t. Kept t c.remove_tree.new.store) (sym (tables_set i.working i.committed i.generation c.args.n (Some c.remove_tree.result))) T.kept
@@ -102,14 +102,14 @@ returns g c =
     let r : Root = (c.in_ok-root.root.height, c.in_ok-root.root.block) in
     let r' : Root = (c.remove_tree.result.height, c.remove_tree.result.block) in
     let q : State = c.remove_tree.new.store in
-    let at : place t.working c.args.n ≡ Some r = ap (λ (v : Tables × Meaning). place v.0.working c.args.n) c.self.view_is ∙ c.in_ok-root.ensures.1.1 in
+    let at : place t.working c.args.n ≡ Some r = placed_here c.args.n c.self.view_is c.in_ok-root.ensures.1.1 in
     let e = c.remove_tree.ensures in
     let T = there t i.store c.get.new.store q c.self.invariant c.args.n r r' c.args.speed c.in_ok-root.ensures.1.0 at c.get.ensures.kept e.edited e.root e.good in
     let l : needs (shape t i.store.0) c.args.n (2 * height (shape t i.store.0) c.args.n + 1) ≡ None
     = ap (λ (h : ℕ). needs (shape t i.store.0) c.args.n (2 * h + 1)) (high t i.store.0 i.store.1 c.self.invariant c.args.n r at)
     ∙ needs_is t i.store.0 i.store.1 c.self.invariant c.args.n (2 * r.0 + 1) ∙ ap (λ (q : State). lacking_in q c.args.n (2 * r.0 + 1)) (sym c.get.ensures.kept) ∙ c.in_ok-grant.ensures.0 in
     let a = c.in-Some.angle in
-    let d = removed_row v c.args.n c.args.speed (ap (λ (v : Tables × Meaning). early (has v.0.working) (remove c.args.n c.args.speed)) c.self.view_is ∙ c.in_ok-root.ensures.0)
+    let d = removed_row v c.args.n c.args.speed (early_here (remove c.args.n c.args.speed) c.self.view_is c.in_ok-root.ensures.0)
     a (c.in-Some.ensures.answer ∙ ap (look c.args.speed) (sym (clone_rows v c.args.n r at))) l T.os (placed t (set t.working c.args.n (Some r'))) q.0 T.trace T.effect in
     let d₁ = subst (λ (v : Tables × Meaning). Called (remove c.args.n c.args.speed) (look c.args.speed (rows_of_clone v c.args.n)) v (Ok (Some a)) (placed t (set t.working c.args.n (Some r')), q.0)) c.self.view_is d in
     let d₂ = subst (λ (t' : Tables). Called (remove c.args.n c.args.speed) (look c.args.speed (rows_of_clone c.args.self.now c.args.n)) c.args.self.now (Ok (Some a)) (t', q.0))
