@@ -29,7 +29,7 @@ release-requires g c =
     let t : Tables = tables i.working i.committed i.generation in
     let at : place t.working c.args.n ≡ Some r = ap (λ (v : Tables × Meaning). place v.0.working c.args.n) c.self.view_is ∙ c.in_ok-root.ensures.2 in
     let up : 1 ≤ r.0 = (good t i.store c.self.invariant c.args.n r at c.in_ok-root.ensures.1).height in
-    subst (λ l. Held i.store.0 i.store.1 r.1 l) (top_is r.0 up) (held t i.store c.self.invariant c.args.n r at c.in_ok-root.ensures.1)
+    subst (λ l. Held i.store r.1 l) (top_is r.0 up) (held t i.store c.self.invariant c.args.n r at c.in_ok-root.ensures.1)
 
 pub invariant_of-self : goal.invariant_of-self
 invariant_of-self g c =
