@@ -123,20 +123,16 @@ fn link_parts<D: Device>(
     ensures grant { grant.new ≡ drop 2 grant.old }
 {
     let at = filled.at;
+    let end = at + filled.replaced();
     let left = Entry {
         speed: page.entries[at].speed,
         value: grant.take(),
     };
     match &filled.neighbour {
-        Neighbour::Apart => {
+        Neighbour::Apart | Neighbour::Merged => {
             grant.give_back();
             store.link(left.value, made);
-            page.spliced(at..at + 1, &[left])
-        },
-        Neighbour::Merged => {
-            grant.give_back();
-            store.link(left.value, made);
-            page.spliced(at..at + 2, &[left])
+            page.spliced(at..end, &[left])
         },
         Neighbour::After(rest) => {
             let right = Entry {
@@ -144,7 +140,7 @@ fn link_parts<D: Device>(
                 value: grant.take(),
             };
             link_two(store, left.value, right.value, made, rest);
-            page.spliced(at..at + 2, &[left, right])
+            page.spliced(at..end, &[left, right])
         },
         Neighbour::Before(rest) => {
             let right = Entry {
@@ -152,7 +148,7 @@ fn link_parts<D: Device>(
                 value: grant.take(),
             };
             link_two(store, left.value, right.value, rest, made);
-            page.spliced(at..at + 2, &[left, right])
+            page.spliced(at..end, &[left, right])
         },
     }
 }
