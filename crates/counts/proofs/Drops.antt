@@ -8,17 +8,17 @@ use Rattle.counts.specs.Moves.{Held, Dropped}
 use Rattle.counts.proofs.Steps.{drop_one, drop_last}
 use Rattle.counts.proofs.Opens.{occ_append, occ_at, recount}
 
-pub dropped_none : (m : Meaning) (cs : List ℕ) → Dropped [] m cs cs
+pub dropped_none : (m : Meaning) (cs : List ℕ) → Dropped [] (m, cs) cs
 dropped_none m cs h c = recount (λ b. 0 + h b) h (λ b. omega arith) c
 
-pub dropped_push : (xs : List ℕ) (y : ℕ) (m : Meaning) (cs cs' cs'' : List ℕ) → Dropped xs m cs cs' → Dropped (y ∷ []) m cs' cs'' → Dropped (xs ++ y ∷ []) m cs cs''
+pub dropped_push : (xs : List ℕ) (y : ℕ) (m : Meaning) (cs cs' cs'' : List ℕ) → Dropped xs (m, cs) cs' → Dropped (y ∷ []) (m, cs') cs'' → Dropped (xs ++ y ∷ []) (m, cs) cs''
 dropped_push xs y m cs cs' cs'' d e h c =
     e h (d (λ b. occ b (y ∷ []) + h b)
     (recount (λ b. occ b (xs ++ y ∷ []) + h b) (λ b. occ b xs + (occ b (y ∷ []) + h b)) (λ b. omega (arith, occ_append b xs (y ∷ []))) c))
 
 -- after i of the children ks are dropped, the next is still held
 next_held : (ks : List ℕ) (i level : ℕ) (h : ℕ → ℕ) (m : Meaning) (cs cs' : List ℕ) → Counted (block_at m) cs (λ b. occ b ks + h b) → ((y : ℕ) → 0 < occ y ks → level_of (block_at m y) + 1 ≡ level)
-    → i < length ks → Dropped (take i ks) m cs cs' → Held m cs' (get_or ks i 0) (level - 1)
+    → i < length ks → Dropped (take i ks) (m, cs) cs' → Held (m, cs') (get_or ks i 0) (level - 1)
 next_held ks i level h m cs cs' c low lt d =
     let y : ℕ = get_or ks i 0 in
     let split = λ (b : ℕ). ap (occ b) (sym (take-append-drop i ks)) ∙ occ_append b (take i ks) (drop i ks) in
@@ -32,7 +32,7 @@ next_held ks i level h m cs cs' c low lt d =
     }
 
 -- a block with other references loses one
-pub dropped_one : (x v : ℕ) (m : Meaning) (cs cs' : List ℕ) → cs' ≡ set cs x v → get_or cs x 0 ≡ v + 1 → 0 < v → Dropped (x ∷ []) m cs cs'
+pub dropped_one : (x v : ℕ) (m : Meaning) (cs cs' : List ℕ) → cs' ≡ set cs x v → get_or cs x 0 ≡ v + 1 → 0 < v → Dropped (x ∷ []) (m, cs) cs'
 dropped_one x v m cs cs' e n p h c =
     subst (λ ds. Counted (block_at m) ds h) (sym e) (drop_one (block_at m) cs h x v (recount (λ b. occ b (x ∷ []) + h b) (λ b. one x b + h b) (λ b. omega arith) c) n p)
 
@@ -44,12 +44,12 @@ fallen x ks h m cs cs' n e k c =
     subst (λ ds. Counted (block_at m) ds (λ b. occ b ks + h b)) (sym e) low
 
 -- a block loses its last reference, and its children theirs from it
-pub dropped_last : (x : ℕ) (ks : List ℕ) (m : Meaning) (cs cs' cs'' : List ℕ) → get_or cs x 0 ≡ 1 → cs' ≡ set cs x 0 → ks ≡ kids_of (block_at m x) → Dropped ks m cs' cs'' → Dropped (x ∷ []) m cs cs''
+pub dropped_last : (x : ℕ) (ks : List ℕ) (m : Meaning) (cs cs' cs'' : List ℕ) → get_or cs x 0 ≡ 1 → cs' ≡ set cs x 0 → ks ≡ kids_of (block_at m x) → Dropped ks (m, cs') cs'' → Dropped (x ∷ []) (m, cs) cs''
 dropped_last x ks m cs cs' cs'' n e k d h c = d h (fallen x ks h m cs cs' n e k (recount (λ b. occ b (x ∷ []) + h b) (λ b. one x b + h b) (λ b. omega arith) c))
 
 -- the next child, in the loop over the children of a block whose count fell to 0
-pub next_child : (x level : ℕ) (ks : List ℕ) (i : ℕ) (m : Meaning) (cs cs' cs'' : List ℕ) → Held m cs x level → get_or cs x 0 ≡ 1 → cs' ≡ set cs x 0 → ks ≡ kids_of (block_at m x) → i < length ks
-    → Dropped (take i ks) m cs' cs'' → Held m cs'' (get_or ks i 0) (level - 1)
+pub next_child : (x level : ℕ) (ks : List ℕ) (i : ℕ) (m : Meaning) (cs cs' cs'' : List ℕ) → Held (m, cs) x level → get_or cs x 0 ≡ 1 → cs' ≡ set cs x 0 → ks ≡ kids_of (block_at m x) → i < length ks
+    → Dropped (take i ks) (m, cs') cs'' → Held (m, cs'') (get_or ks i 0) (level - 1)
 next_child x level ks i m cs cs' cs'' hx n e k lt d =
     let alive : 0 < get_or cs x 0 = omega arith in
     next_held ks i level hx.others m cs' cs'' (fallen x ks hx.others m cs cs' n e k hx.counted)
@@ -61,5 +61,5 @@ leaf_none None e = refl
 leaf_none (Some n) e = ap (λ l. children l n.entries) e
 
 -- a leaf loses its last reference
-pub dropped_leaf : (x : ℕ) (m : Meaning) (cs cs' : List ℕ) → get_or cs x 0 ≡ 1 → cs' ≡ set cs x 0 → level_of (block_at m x) ≡ 0 → Dropped (x ∷ []) m cs cs'
+pub dropped_leaf : (x : ℕ) (m : Meaning) (cs cs' : List ℕ) → get_or cs x 0 ≡ 1 → cs' ≡ set cs x 0 → level_of (block_at m x) ≡ 0 → Dropped (x ∷ []) (m, cs) cs'
 dropped_leaf x m cs cs' n e z = dropped_last x [] m cs cs' cs' n e (sym (leaf_none (block_at m x) z)) (dropped_none m cs')

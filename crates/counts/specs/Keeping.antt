@@ -4,7 +4,7 @@ use Rattle.device.specs.Meaning.{Meaning, blocks_of, written}
 use Rattle.page.specs.Block.{Block, block_at, kids_of, level_of, encode, Layout}
 use Rattle.counts.specs.Counts.{one, occ, Counted, opened}
 
--- one reference more to a block that is alive
+-- the counts with one reference more to x
 abbrev pub retained : ℕ → List ℕ → List ℕ
 retained x cs = slice_set cs x (slice_index cs x + 1)
 

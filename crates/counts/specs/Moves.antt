@@ -15,14 +15,11 @@ pub data Move : Type 0 where
 abbrev pub State : Type 0
 State = Meaning × List ℕ
 
-abbrev pub state_of : Meaning → List ℕ → State
-state_of m cs = (m, cs)
-
 -- what every store keeps: a device's rules, a width that a volume uses, a count for each block
-pub record Shaped (m : Meaning) (cs : List ℕ) : Type 0 where
-  pub lawful : Lawful m
-  pub wide : Wide m
-  pub sized : length cs ≡ blocks_of m
+pub record Shaped (q : State) : Type 0 where
+  pub lawful : Lawful q.0
+  pub wide : Wide q.0
+  pub sized : length q.1 ≡ blocks_of q.0
 
 abbrev pub step : Move → State → State
 step (opening x) q = (q.0, opened (kids_of (block_at q.0 x)) x q.1)
@@ -48,18 +45,18 @@ Laid w [] = Unit {0}
 Laid w (v ∷ vs) = LaidMove w v × Laid w vs
 
 -- someone holds a reference to block x; few references are from outside, and there are few blocks
-pub record Owned (m : Meaning) (cs : List ℕ) (x : ℕ) : Type 0 where
+pub record Owned (q : State) (x : ℕ) : Type 0 where
   pub others : ℕ → ℕ
-  pub counted : Counted (block_at m) cs (λ b. one x b + others b)
+  pub counted : Counted (block_at q.0) q.1 (λ b. one x b + others b)
   pub modest : (b : ℕ) → others b ≤ 2000
-  pub few : length cs ≤ 4096
+  pub few : length q.1 ≤ 4096
 
 -- someone holds a reference to block x, of this level
-pub record Held (m : Meaning) (cs : List ℕ) (x level : ℕ) : Type 0 where
+pub record Held (q : State) (x level : ℕ) : Type 0 where
   pub others : ℕ → ℕ
-  pub counted : Counted (block_at m) cs (λ b. one x b + others b)
-  pub height : level_of (block_at m x) ≡ level
+  pub counted : Counted (block_at q.0) q.1 (λ b. one x b + others b)
+  pub height : level_of (block_at q.0 x) ≡ level
 
--- from counts cs to cs' the references xs from outside are dropped
-abbrev pub Dropped : List ℕ → Meaning → List ℕ → List ℕ → Type 0
-Dropped xs m cs cs' = (h : ℕ → ℕ) → Counted (block_at m) cs (λ b. occ b xs + h b) → Counted (block_at m) cs' h
+-- from the counts of q to cs' the references xs from outside are dropped
+abbrev pub Dropped : List ℕ → State → List ℕ → Type 0
+Dropped xs q cs' = (h : ℕ → ℕ) → Counted (block_at q.0) q.1 (λ b. occ b xs + h b) → Counted (block_at q.0) cs' h

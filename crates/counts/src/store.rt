@@ -58,7 +58,7 @@ impl<D: Device> Store<D> {
     // The number of blocks, and what every store keeps.
     pub fn blocks(&self) -> u32
         ensures blocks { result ≡ blocks_of self.now.0 }
-        ensures shape { Shaped self.now.0 self.now.1 }
+        ensures shape { Shaped self.now }
     {
         self.device.blocks()
     }
@@ -126,7 +126,7 @@ impl<D: Device> Store<D> {
 
     // Gives up a reference to a block for references to its children.
     pub fn open(&mut self, block: u32) -> Page
-        requires { Owned self.old.0 self.old.1 block }
+        requires { Owned self.old block }
         ensures page { block_at self.old.0 block ≡ Some (view result) }
         ensures state { self.new ≡ step (opening block) self.old }
     {
@@ -137,7 +137,7 @@ impl<D: Device> Store<D> {
 
     // The same, where the page of the block was read before.
     pub fn open_page(&mut self, block: u32, page: &Page)
-        requires owned { Owned self.old.0 self.old.1 block }
+        requires owned { Owned self.old block }
         requires holds { block_at self.old.0 block ≡ Some (view page.now) }
         ensures { self.new ≡ step (opening block) self.old }
     {
@@ -158,9 +158,9 @@ impl<D: Device> Store<D> {
 
     // Gives up a reference to a block; where it was the last, those to its children too.
     pub fn release(&mut self, block: u32, level: u32)
-        requires { Held self.old.0 self.old.1 block level }
+        requires { Held self.old block level }
         ensures kept { self.new.0 ≡ self.old.0 }
-        ensures dropped { Dropped (block ∷ []) self.old.0 self.old.1 self.new.1 }
+        ensures dropped { Dropped (block ∷ []) self.old self.new.1 }
         ensures sized { length self.new.1 ≡ length self.old.1 }
     {
         let count = self.counts.get(block);

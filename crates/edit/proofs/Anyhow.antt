@@ -7,7 +7,7 @@ use Rattle.tree.specs.Tree.{Pay, Tree}
 use Rattle.page.specs.Block.{Block, block_at, kids_of}
 use Rattle.counts.specs.Counts.{opened}
 use Rattle.edit.specs.Plan.{shallow, page, node_of, chosen, parted, placed, links, down, put_n, kid_moves, moves}
-use Rattle.counts.specs.Moves.{Move, opening, State, state_of, step, writes, Laid}
+use Rattle.counts.specs.Moves.{Move, opening, State, step, writes, Laid}
 use Rattle.edit.specs.Able.{Ready, Able, Made, Open}
 use Rattle.counts.specs.Moves.{Owned}
 use Rattle.edit.proofs.States.{same_by, writes_append}
@@ -69,69 +69,69 @@ pub record Linkable (q : State) (gs : List ℕ) (n child made : Block) : Type 0 
   pub two : 2 ≤ length gs
   pub wide : 32 ≤ q.0.width
   pub left : 2 ≤ q.0.left
-  pub places : Open q.0 q.1 gs 0
+  pub places : Open q gs 0
   pub level : made.level ≡ child.level
   pub above : suc child.level ≡ n.level
 
 module _ (m : Meaning) (cs gs : List ℕ) (n : Block) (s : ℕ) where
-  pub leaf_made : (a : ℕ) (r : Block) → n.level ≡ 0 → r.level ≡ n.level → r.entries ≡ ins s a n.entries → (l : ℕ) (es : List (ℕ × Pay ℕ ℕ l)) → Ready m cs gs n s l es → Made m cs m cs gs s a l es r
+  pub leaf_made : (a : ℕ) (r : Block) → n.level ≡ 0 → r.level ≡ n.level → r.entries ≡ ins s a n.entries → (l : ℕ) (es : List (ℕ × Pay ℕ ℕ l)) → Ready (m, cs) gs n s l es → Made (m, cs) (m, cs) gs s a l es r
   leaf_made a r z v e zero es p = record { is = ap₂ page (v ∙ z) (e ∙ ap (λ (x : Block). ins s a x.entries) p.is); state = refl; laid = tt }
   leaf_made a r z v e (suc l) es p = absurd (omega (arith, z, ap (λ (x : Block). x.level) p.is))
 
-  pub room : Able m cs gs n s → length n.entries ≤ 14
+  pub room : Able (m, cs) gs n s → length n.entries ≤ 14
   room a = omega (arith, a.ready.room, ap (λ (x : Block). length x.entries) a.ready.is, shallow_length a.l a.es)
 
-  pub first_key : (n.level ≡ 0 → ⊥) → Able m cs gs n s → (0 < length n.entries) × ((get_or n.entries 0 (0, 0)).0 ≤ s)
+  pub first_key : (n.level ≡ 0 → ⊥) → Able (m, cs) gs n s → (0 < length n.entries) × ((get_or n.entries 0 (0, 0)).0 ≤ s)
   first_key above a = go a.l a.es a.ready
     where
-      go : (l : ℕ) (es : List (ℕ × Pay ℕ ℕ l)) → Ready m cs gs n s l es → (0 < length n.entries) × ((get_or n.entries 0 (0, 0)).0 ≤ s)
+      go : (l : ℕ) (es : List (ℕ × Pay ℕ ℕ l)) → Ready (m, cs) gs n s l es → (0 < length n.entries) × ((get_or n.entries 0 (0, 0)).0 ≤ s)
       go zero es p = absurd (above (ap (λ (x : Block). x.level) p.is))
       go (suc l) [] p = absurd (not-suc-le-zero (p.enough (omega arith)))
       go (suc l) (x ∷ es) p =
           (omega (arith, ap (λ (z : Block). length z.entries) p.is), omega (arith, p.low, p.span.0, ap (λ (z : Block). (get_or z.entries 0 (0, 0)).0) p.is))
 
   module _ (i : ℕ) (x : ℕ × ℕ) (C : Covers n s i x) where
-    pub owned_any : Able m cs gs n s → Owned m cs x.1
+    pub owned_any : Able (m, cs) gs n s → Owned (m, cs) x.1
     owned_any a = go a.l a.es a.ready
       where
-        go : (l : ℕ) (es : List (ℕ × Pay ℕ ℕ l)) → Ready m cs gs n s l es → Owned m cs x.1
+        go : (l : ℕ) (es : List (ℕ × Pay ℕ ℕ l)) → Ready (m, cs) gs n s l es → Owned (m, cs) x.1
         go zero es p = absurd (C.above (ap (λ (x : Block). x.level) p.is))
-        go (suc l) es p = subst (Owned m cs) (sym (number_is m cs gs n s l es p i x C)) (owned m cs gs n s l es p i x C)
+        go (suc l) es p = subst (Owned (m, cs)) (sym (number_is m cs gs n s l es p i x C)) (owned m cs gs n s l es p i x C)
 
-    module _ (child part : Block) (q₁ : State) (P : Parts (state_of m cs) q₁ x.1 s child part) where
+    module _ (child part : Block) (q₁ : State) (P : Parts (m, cs) q₁ x.1 s child part) where
       -- what is known of the child, above its level
-      child_is : (l : ℕ) (es : List (ℕ × Tree ℕ ℕ l)) → (p : Ready m cs gs n s (suc l) es) → child ≡ node_of l (get_or es i (0, (0, []))).1.1
+      child_is : (l : ℕ) (es : List (ℕ × Tree ℕ ℕ l)) → (p : Ready (m, cs) gs n s (suc l) es) → child ≡ node_of l (get_or es i (0, (0, []))).1.1
       child_is l es p =
           let t : Tree ℕ ℕ l = (get_or es i (0, (0, []))).1 in
           let e : Some child ≡ Some (node_of l t.1) = sym P.there ∙ ap (block_at m) (number_is m cs gs n s l es p i x C) ∙ child_node m cs gs n s l es p i x C in
           cc
 
-      part_level : (l : ℕ) (es : List (ℕ × Tree ℕ ℕ l)) → (p : Ready m cs gs n s (suc l) es) → part.level ≡ l
+      part_level : (l : ℕ) (es : List (ℕ × Tree ℕ ℕ l)) → (p : Ready (m, cs) gs n s (suc l) es) → part.level ≡ l
       part_level l es p = P.level ∙ ap (λ (x : Block). x.level) (child_is l es p)
 
-      opened_is : (l : ℕ) (es : List (ℕ × Tree ℕ ℕ l)) → (p : Ready m cs gs n s (suc l) es) → q₁ ≡ step (opening (get_or es i (0, (0, []))).1.0) (state_of m cs)
-      opened_is l es p = P.state ∙ ap (λ (b : ℕ). step (opening b) (state_of m cs)) (number_is m cs gs n s l es p i x C)
+      opened_is : (l : ℕ) (es : List (ℕ × Tree ℕ ℕ l)) → (p : Ready (m, cs) gs n s (suc l) es) → q₁ ≡ step (opening (get_or es i (0, (0, []))).1.0) (m, cs)
+      opened_is l es p = P.state ∙ ap (λ (b : ℕ). step (opening b) (m, cs)) (number_is m cs gs n s l es p i x C)
 
-      inner : (l : ℕ) (es : List (ℕ × Tree ℕ ℕ l)) → (p : Ready m cs gs n s (suc l) es) → Ready q₁.0 q₁.1 gs part s l (chosen s (get_or es i (0, (0, []))).1.1)
+      inner : (l : ℕ) (es : List (ℕ × Tree ℕ ℕ l)) → (p : Ready (m, cs) gs n s (suc l) es) → Ready q₁ gs part s l (chosen s (get_or es i (0, (0, []))).1.1)
       inner l es p =
           let t : Tree ℕ ℕ l = (get_or es i (0, (0, []))).1 in
           let v : part ≡ page l (chosen s (shallow l t.1)) = ap₂ page (part_level l es p) (P.these ∙ ap (λ (x : Block). chosen s x.entries) (child_is l es p)) in
-          subst (λ (z : State). Ready z.0 z.1 gs part s l (chosen s t.1)) (sym (opened_is l es p))
-          (subst (λ (z : Block). Ready m (opened (kids_of (block_at m t.0)) t.0 cs) gs z s l (chosen s t.1)) (sym v) (part_ready m cs gs n s l es p i x C))
+          subst (λ (z : State). Ready z gs part s l (chosen s t.1)) (sym (opened_is l es p))
+          (subst (λ (z : Block). Ready (m, opened (kids_of (block_at m t.0)) t.0 cs) gs z s l (chosen s t.1)) (sym v) (part_ready m cs gs n s l es p i x C))
 
-      pub part_any : Able m cs gs n s → Able q₁.0 q₁.1 gs part s × (suc part.level ≡ n.level)
+      pub part_any : Able (m, cs) gs n s → Able q₁ gs part s × (suc part.level ≡ n.level)
       part_any a = go a.l a.es a.ready
         where
-          go : (l : ℕ) (es : List (ℕ × Pay ℕ ℕ l)) → Ready m cs gs n s l es → Able q₁.0 q₁.1 gs part s × (suc part.level ≡ n.level)
+          go : (l : ℕ) (es : List (ℕ × Pay ℕ ℕ l)) → Ready (m, cs) gs n s l es → Able q₁ gs part s × (suc part.level ≡ n.level)
           go zero es p = absurd (C.above (ap (λ (x : Block). x.level) p.is))
           go (suc l) es p = (
             record { l = l; es = chosen s (get_or es i (0, (0, []))).1.1; ready = inner l es p },
             omega (arith, part_level l es p, ap (λ (x : Block). x.level) p.is),
           )
 
-      module _ (a : ℕ) (made : Block) (q₂ : State) (f : (l : ℕ) (es : List (ℕ × Pay ℕ ℕ l)) → Ready q₁.0 q₁.1 gs part s l es → Made q₁.0 q₁.1 q₂.0 q₂.1 gs s a l es made) (hs : List ℕ) (taken : hs ≡ drop (2 * part.level) gs) where
+      module _ (a : ℕ) (made : Block) (q₂ : State) (f : (l : ℕ) (es : List (ℕ × Pay ℕ ℕ l)) → Ready q₁ gs part s l es → Made q₁ q₂ gs s a l es made) (hs : List ℕ) (taken : hs ≡ drop (2 * part.level) gs) where
         -- a free block that is none of the first 2l places stays free
-        still_free : (l : ℕ) (es : List (ℕ × Tree ℕ ℕ l)) → Ready m cs gs n s (suc l) es → (b : ℕ) → ((i : ℕ) → i < 2 * l → b ≡ get_or gs i 0 → ⊥) → get_or cs b 0 ≡ 0 → get_or q₂.1 b 0 ≡ 0
+        still_free : (l : ℕ) (es : List (ℕ × Tree ℕ ℕ l)) → Ready (m, cs) gs n s (suc l) es → (b : ℕ) → ((i : ℕ) → i < 2 * l → b ≡ get_or gs i 0 → ⊥) → get_or cs b 0 ≡ 0 → get_or q₂.1 b 0 ≡ 0
         still_free l es p b out z =
             let t : Tree ℕ ℕ l = (get_or es i (0, (0, []))).1 in
             let xs = chosen s t.1 in
@@ -142,21 +142,21 @@ module _ (m : Meaning) (cs gs : List ℕ) (n : Block) (s : ℕ) where
             ap (λ (x : State). get_or x.1 b 0) M.state ∙ S.kept.free b out z₁
 
         -- the places of the two blocks
-        left_is : (l : ℕ) (es : List (ℕ × Tree ℕ ℕ l)) → Ready m cs gs n s (suc l) es → get_or hs 0 0 ≡ get_or gs (2 * l) 0
+        left_is : (l : ℕ) (es : List (ℕ × Tree ℕ ℕ l)) → Ready (m, cs) gs n s (suc l) es → get_or hs 0 0 ≡ get_or gs (2 * l) 0
         left_is l es p = place gs hs (2 * part.level) 0 (2 * l) taken (omega (arith, part_level l es p))
 
-        right_is : (l : ℕ) (es : List (ℕ × Tree ℕ ℕ l)) → Ready m cs gs n s (suc l) es → get_or hs 1 0 ≡ get_or gs (2 * l + 1) 0
+        right_is : (l : ℕ) (es : List (ℕ × Tree ℕ ℕ l)) → Ready (m, cs) gs n s (suc l) es → get_or hs 1 0 ≡ get_or gs (2 * l + 1) 0
         right_is l es p = place gs hs (2 * part.level) 1 (2 * l + 1) taken (omega (arith, part_level l es p))
 
-        pub linkable : 2 * n.level ≤ length gs → Able m cs gs n s → Linkable q₂ hs n child made
+        pub linkable : 2 * n.level ≤ length gs → Able (m, cs) gs n s → Linkable q₂ hs n child made
         linkable enough o = go o.l o.es o.ready
           where
-            go : (l : ℕ) (es : List (ℕ × Pay ℕ ℕ l)) → Ready m cs gs n s l es → Linkable q₂ hs n child made
+            go : (l : ℕ) (es : List (ℕ × Pay ℕ ℕ l)) → Ready (m, cs) gs n s l es → Linkable q₂ hs n child made
             go zero es p = absurd (C.above (ap (λ (x : Block). x.level) p.is))
             go (suc l) es p =
                 let t : Tree ℕ ℕ l = (get_or es i (0, (0, []))).1 in
                 let M = f l (chosen s t.1) (inner l es p) in
-                let r₁ = same_by (opening x.1 ∷ []) (state_of m cs) q₁ P.state in
+                let r₁ = same_by (opening x.1 ∷ []) (m, cs) q₁ P.state in
                 let r₂ = same_by (moves gs s a l (chosen s t.1)) q₁ q₂ M.state in
                 let pl = p.free.on (2 * l) (omega arith) in
                 let pr = p.free.on (2 * l + 1) (omega arith) in
@@ -182,7 +182,7 @@ module _ (m : Meaning) (cs gs : List ℕ) (n : Block) (s : ℕ) where
                 }
 
         pub up_any : (q₃ : State) (ks : List (ℕ × ℕ)) (r : Block) → By child.level (get_or hs 0 0) (get_or hs 1 0) q₂ q₃ ks (parted s x.0 child.entries made.entries)
-            → r ≡ page n.level (take i n.entries ++ (ks ++ drop (suc i) n.entries)) → (l : ℕ) (es : List (ℕ × Pay ℕ ℕ l)) → Ready m cs gs n s l es → Made m cs q₃.0 q₃.1 gs s a l es r
+            → r ≡ page n.level (take i n.entries ++ (ks ++ drop (suc i) n.entries)) → (l : ℕ) (es : List (ℕ × Pay ℕ ℕ l)) → Ready (m, cs) gs n s l es → Made (m, cs) q₃ gs s a l es r
         up_any q₃ ks r by e zero es p = absurd (C.above (ap (λ (x : Block). x.level) p.is))
         up_any q₃ ks r by e (suc l) es p =
             let t : Tree ℕ ℕ l = (get_or es i (0, (0, []))).1 in

@@ -5,7 +5,7 @@ use Rattle.device.proofs.Choices.{write_at}
 use Rattle.page.specs.Block.{Block, block_at, block_in, encode, Layout}
 use Rattle.page.proofs.Exact.{back}
 use Rattle.counts.specs.Counts.{one, occ, Counted, free_blocks}
-use Rattle.counts.specs.Moves.{Move, linking, State, state_of, step, run}
+use Rattle.counts.specs.Moves.{Move, linking, State, step, run}
 use Rattle.model.specs.TreeBlocks as model
 use Rattle.model.specs.TreeBlocks.{Change.begin, changed_on, new_blocks, bare_tree, root_of}
 use Rattle.edit.specs.Plan.{page}
@@ -16,7 +16,7 @@ use Rattle.edit.proofs.Traces.{ops, run_replay, ops_free}
 use Rattle.edit.proofs.Trees.{Spare}
 use Rattle.edit.proofs.Editing.{lowest, spares}
 
-module _ (m : Meaning) (cs gs : List ℕ) (C : Counting m cs) (G : Granted 1 m cs gs) (x : ℕ) (hs : List ℕ) (taken : gs ≡ x ∷ hs) where
+module _ (m : Meaning) (cs gs : List ℕ) (C : Counting (m, cs)) (G : Granted 1 (m, cs) gs) (x : ℕ) (hs : List ℕ) (taken : gs ≡ x ∷ hs) where
   abbrev leaf : Block
   leaf = page 0 []
 
@@ -47,13 +47,13 @@ module _ (m : Meaning) (cs gs : List ℕ) (C : Counting m cs) (G : Granted 1 m c
   once : (b : ℕ) → occ b (x ∷ []) ≡ occ b (new_blocks begin (free_blocks cs) bare_tree)
   once b = ap (λ (y : ℕ). occ b (y ∷ [])) first
 
-  pub created : (made : Block) → made.level ≡ 0 → made.entries ≡ [] → (q : State) → q ≡ step (linking x made) (state_of m cs) → Edited begin bare_tree m cs q.0 q.1
+  pub created : (made : Block) → made.level ≡ 0 → made.entries ≡ [] → (q : State) → q ≡ step (linking x made) (m, cs) → Edited begin bare_tree (m, cs) q
   created made lv es q eq =
-      let q₀ : State = state_of m cs in
+      let q₀ : State = (m, cs) in
       let vs : List Move = linking x leaf ∷ [] in
       let to : q ≡ run vs q₀ = eq ∙ ap₂ (λ (k : ℕ) (es : List (ℕ × ℕ)). step (linking x (page k es)) q₀) lv es in
       let A = leaf_spare in
-      subst (λ (z : State). Edited begin bare_tree m cs z.0 z.1) (sym to) (record {
+      subst (λ (z : State). Edited begin bare_tree (m, cs) z) (sym to) (record {
         os = ops m.width vs;
         trace = run_replay vs q₀;
         free = ops_free m cs m.width vs (A, tt);

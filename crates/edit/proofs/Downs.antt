@@ -15,7 +15,7 @@ use Rattle.page.specs.Block.{Block, block_at, kids_of}
 use Rattle.counts.specs.Counts.{one, occ, Counted, opened}
 use Rattle.counts.proofs.Opens.{recount, open_counted, open_free, length_opened}
 use Rattle.edit.specs.Plan.{shallow, page, node_of, kids, Stored, chosen, unchosen, parted, placed, links, down, kid_n, put_n, kid_moves, moves}
-use Rattle.counts.specs.Moves.{Move, opening, State, state_of, step, run, Laid}
+use Rattle.counts.specs.Moves.{Move, opening, State, step, run, Laid}
 use Rattle.edit.specs.Able.{Loose, Ready, Made}
 use Rattle.counts.specs.Moves.{Owned}
 use Rattle.edit.proofs.States.{same_by, run_append, laid_append}
@@ -192,7 +192,7 @@ pub record Covers (n : Block) (s i : ℕ) (e : ℕ × ℕ) : Type 0 where
   pub high : suc i < length n.entries → s < (get_or n.entries (suc i) (0, 0)).0
   pub entry : get_or n.entries i (0, 0) ≡ e
 
-module _ (m : Meaning) (cs gs : List ℕ) (n : Block) (s l : ℕ) (es : List (ℕ × Tree ℕ ℕ l)) (p : Ready m cs gs n s (suc l) es) (i : ℕ) (x : ℕ × ℕ) (C : Covers n s i x) where
+module _ (m : Meaning) (cs gs : List ℕ) (n : Block) (s l : ℕ) (es : List (ℕ × Tree ℕ ℕ l)) (p : Ready (m, cs) gs n s (suc l) es) (i : ℕ) (x : ℕ × ℕ) (C : Covers n s i x) where
   abbrev d : ℕ × Tree ℕ ℕ l
   d = (0, (0, []))
 
@@ -232,7 +232,7 @@ module _ (m : Meaning) (cs gs : List ℕ) (n : Block) (s l : ℕ) (es : List (�
   sides_le : (b : ℕ) → sides b + 32 * l ≤ 1982
   sides_le b = omega (arith, p.modest b, kids_around b l es i d at_e, kids_le b (suc l) es, p.room)
 
-  pub owned : Owned m cs t.0
+  pub owned : Owned (m, cs) t.0
   owned = record { others = sides; counted = held; modest = λ b. omega (arith, sides_le b); few = p.few }
 
   child_stored : Stored (block_at m) (suc l) t
@@ -245,7 +245,7 @@ module _ (m : Meaning) (cs gs : List ℕ) (n : Block) (s l : ℕ) (es : List (�
   pub opened_free : (b : ℕ) → get_or cs b 0 ≡ 0 → get_or (opened (kids_of (block_at m t.0)) t.0 cs) b 0 ≡ 0
   opened_free b z = open_free m cs sides t.0 b held z
 
-  pub part_ready : Ready m (opened (kids_of (block_at m t.0)) t.0 cs) gs (page l (chosen s (shallow l t.1))) s l (chosen s t.1)
+  pub part_ready : Ready (m, opened (kids_of (block_at m t.0)) t.0 cs) gs (page l (chosen s (shallow l t.1))) s l (chosen s t.1)
   part_ready =
       let g = seg_get (Loose (suc l)) s p.lo p.hi es i d p.span at_e p.high high_e in
       let a = part m s l k g.0 t.1 child_stored.1 g.1 low_e g.2 in
@@ -273,9 +273,9 @@ module _ (m : Meaning) (cs gs : List ℕ) (n : Block) (s l : ℕ) (es : List (�
         wide = p.wide;
       }
 
-  pub up : (a : ℕ) (q₁ q₂ q₃ : State) (ks : List (ℕ × ℕ)) (r : Block) → q₁ ≡ step (opening t.0) (state_of m cs) → q₂ ≡ run (moves gs s a l (chosen s t.1)) q₁ → Laid m.width (moves gs s a l (chosen s t.1))
+  pub up : (a : ℕ) (q₁ q₂ q₃ : State) (ks : List (ℕ × ℕ)) (r : Block) → q₁ ≡ step (opening t.0) (m, cs) → q₂ ≡ run (moves gs s a l (chosen s t.1)) q₁ → Laid m.width (moves gs s a l (chosen s t.1))
       → By l (get_or gs (2 * l) 0) (get_or gs (2 * l + 1) 0) q₂ q₃ ks (parted s k (shallow l t.1) (shallow l (put_n gs s a l (chosen s t.1))))
-      → r ≡ page (suc l) (take i n.entries ++ (ks ++ drop (suc i) n.entries)) → Made m cs q₃.0 q₃.1 gs s a (suc l) es r
+      → r ≡ page (suc l) (take i n.entries ++ (ks ++ drop (suc i) n.entries)) → Made (m, cs) q₃ gs s a (suc l) es r
   up a q₁ q₂ q₃ ks r e₁ e₂ laid by e =
       let F = λ (c : Tree ℕ ℕ l). c.0 in
       let x = get_or gs (2 * l) 0 in
@@ -295,6 +295,6 @@ module _ (m : Meaning) (cs gs : List ℕ) (n : Block) (s l : ℕ) (es : List (�
         is = e ∙ ap (page (suc l)) (ap₂ (λ (u v : List (ℕ × ℕ)). u ++ (ks ++ v)) tk dr ∙ ap (λ (u : List (ℕ × ℕ)). map_e F (take i es) ++ (u ++ map_e F (drop (suc i) es))) keys
             ∙ ap (λ (u : List (ℕ × ℕ)). map_e F (take i es) ++ u) (sym (map-append F (K k t) (drop (suc i) es))) ∙ sym (map-append F (take i es) (K k t ++ drop (suc i) es)) ∙ ap (map_e F) (sym at-is));
         state = by.state ∙ ap (λ (v : List Move). run v q₂) lk ∙ ap (run (links l (map_e (λ c. (c.0, shallow l c.1)) (placed x y ps)))) (e₂ ∙ ap (run (moves gs s a l (chosen s t.1))) e₁)
-            ∙ sym (run_append (moves gs s a l (chosen s t.1)) (links l (map_e (λ c. (c.0, shallow l c.1)) (placed x y ps))) (step (opening t.0) (state_of m cs))) ∙ ap (λ (v : List Move). run v (state_of m cs)) (sym mv);
+            ∙ sym (run_append (moves gs s a l (chosen s t.1)) (links l (map_e (λ c. (c.0, shallow l c.1)) (placed x y ps))) (step (opening t.0) (m, cs))) ∙ ap (λ (v : List Move). run v (m, cs)) (sym mv);
         laid = subst (Laid m.width) (sym mv) (tt, laid_append m.width (moves gs s a l (chosen s t.1)) _ laid (subst (Laid m.width) lk (subst (λ (v : ℕ). Laid v (links l (placed x y (parted s k (shallow l t.1) (shallow l made))))) w by.laid)));
       }

@@ -41,7 +41,7 @@ spare_up (suc k) b cs i j l =
     go ih zero (suc j) l h = let q = spare_at k (suc b) cs j (omega arith) in omega (arith, q.0)
     go ih (suc i) (suc j) l h = ih i j (omega arith) (omega arith)
 
-module _ (n : ℕ) (m : Meaning) (cs gs : List ℕ) (C : Counting m cs) (G : Granted n m cs gs) where
+module _ (n : ℕ) (m : Meaning) (cs gs : List ℕ) (C : Counting (m, cs)) (G : Granted n (m, cs) gs) where
   pub lowest : (j : ℕ) → j < n → get_or gs j 0 ≡ get_or (free_blocks cs) j 0
   lowest j lt = ap (λ (z : List ℕ). get_or z j 0) G.these ∙ get_or-take n (free_blocks cs) j 0 lt
 
@@ -54,7 +54,7 @@ module _ (n : ℕ) (m : Meaning) (cs gs : List ℕ) (C : Counting m cs) (G : Gra
       let q = spare_at (length cs - 2) 2 cs j (omega (arith, G.enough)) in
       subst (Spare m cs) (sym (lowest j lt)) (q.0, omega (arith, q.1, q.0, C.sized), q.2)
 
-  pub frees : Free m cs gs n
+  pub frees : Free (m, cs) gs n
   frees = record {
     count = λ j lt. (spares j lt).2;
     on = λ j lt. let q = spares j lt in (q.1, omega (arith, q.1, C.sized));
@@ -69,7 +69,7 @@ up : (h : ℕ) → 1 ≤ h → suc (top_level h) ≡ h
 up zero l = absurd (omega arith)
 up (suc h) l = refl
 
-pub rooted : (m : Meaning) (cs gs : List ℕ) (root : Root) (s : ℕ) (E : Editable m cs root) → Granted (2 * root.0 + 1) m cs gs → s < 10000
+pub rooted : (m : Meaning) (cs gs : List ℕ) (root : Root) (s : ℕ) (E : Editable (m, cs) root) → Granted (2 * root.0 + 1) (m, cs) gs → s < 10000
     → Rooted m cs gs root s (tree_at (current_at m) root) E.others
 unfolding tree_at
 rooted m cs gs root s E G sp =
@@ -84,7 +84,7 @@ rooted m cs gs root s E G sp =
       counted = E.counted;
       modest = E.modest;
       few = E.counting.few;
-      free = subst (Free m cs gs) (sym N) (frees (2 * root.0 + 1) m cs gs E.counting G);
+      free = subst (Free (m, cs) gs) (sym N) (frees (2 * root.0 + 1) m cs gs E.counting G);
       slots = λ j lt. (spares (2 * root.0 + 1) m cs gs E.counting G j (omega (arith, N, lt))).0;
       lowest = λ j lt. lowest (2 * root.0 + 1) m cs gs E.counting G j (omega (arith, N, lt));
       left = omega (arith, N, G.left);
@@ -97,11 +97,11 @@ each_by : (N : ℕ → Type 0) (xs : List ℕ) → ((i : ℕ) → i < length xs 
 each_by N [] h = tt
 each_by N (x ∷ xs) h = (h 0 (omega arith), each_by N xs (λ i lt. h (suc i) (omega arith)))
 
-pub frees_inside : (m : Meaning) (cs : List ℕ) → Counting m cs → Each (λ x. (2 ≤ x) × (x < blocks_of m)) (free_blocks cs)
+pub frees_inside : (m : Meaning) (cs : List ℕ) → Counting (m, cs) → Each (λ x. (2 ≤ x) × (x < blocks_of m)) (free_blocks cs)
 frees_inside m cs C =
     each_by (λ x. (2 ≤ x) × (x < blocks_of m)) (free_blocks cs) (λ i lt. let q = spare_at (length cs - 2) 2 cs i lt in (q.0, omega (arith, q.0, q.1, C.sized)))
 
-pub good_after : (d : Change ℕ) (t : Tree) (m : Meaning) (cs : List ℕ) (m' : Meaning) (cs' : List ℕ) (r : Root) → r ≡ root_of (changed_on ℕ d (free_blocks cs) t) → Edited d t m cs m' cs' → Fit (blocks_of m) (changed_on ℕ d (free_blocks cs) t)
+pub good_after : (d : Change ℕ) (t : Tree) (m : Meaning) (cs : List ℕ) (m' : Meaning) (cs' : List ℕ) (r : Root) → r ≡ root_of (changed_on ℕ d (free_blocks cs) t) → Edited d t (m, cs) (m', cs') → Fit (blocks_of m) (changed_on ℕ d (free_blocks cs) t)
     → Good (blocks_of m') (current_at m') r
 good_after d t m cs m' cs' r e E F =
     let u : Tree = changed_on ℕ d (free_blocks cs) t in
@@ -113,13 +113,13 @@ good_after d t m cs m' cs' r e E F =
       fit = subst (Fit (blocks_of m')) (sym back) (subst (λ (k : ℕ). Fit k u) (sym n) F);
     })
 
-pub good_put : (m : Meaning) (cs gs : List ℕ) (root : Root) (s a : ℕ) → Editable m cs root → Granted (2 * root.0 + 1) m cs gs → s < 10000 → a ≤ 18000 → (m' : Meaning) (cs' : List ℕ) (r : Root)
-    → r ≡ root_of (changed_on ℕ (puts s a) (free_blocks cs) (tree_at (current_at m) root)) → Edited (puts s a) (tree_at (current_at m) root) m cs m' cs' → Good (blocks_of m') (current_at m') r
+pub good_put : (m : Meaning) (cs gs : List ℕ) (root : Root) (s a : ℕ) → Editable (m, cs) root → Granted (2 * root.0 + 1) (m, cs) gs → s < 10000 → a ≤ 18000 → (m' : Meaning) (cs' : List ℕ) (r : Root)
+    → r ≡ root_of (changed_on ℕ (puts s a) (free_blocks cs) (tree_at (current_at m) root)) → Edited (puts s a) (tree_at (current_at m) root) (m, cs) (m', cs') → Good (blocks_of m') (current_at m') r
 good_put m cs gs root s a E G sp k m' cs' r e D =
     let t : Tree = tree_at (current_at m) root in
     let hi = (rooted m cs gs root s E G sp).height in
     good_after (puts s a) t m cs m' cs' r e D (grow_fit (blocks_of m) (puts s a) (free_blocks cs) t (sp, k) (frees_inside m cs E.counting) (omega (arith, hi, G.enough)) E.good.fit)
 
-pub good_create : (m : Meaning) (cs gs : List ℕ) → Counting m cs → Granted 1 m cs gs → (m' : Meaning) (cs' : List ℕ) (r : Root)
-    → r ≡ root_of (changed_on ℕ begin (free_blocks cs) bare_tree) → Edited begin bare_tree m cs m' cs' → Good (blocks_of m') (current_at m') r
+pub good_create : (m : Meaning) (cs gs : List ℕ) → Counting (m, cs) → Granted 1 (m, cs) gs → (m' : Meaning) (cs' : List ℕ) (r : Root)
+    → r ≡ root_of (changed_on ℕ begin (free_blocks cs) bare_tree) → Edited begin bare_tree (m, cs) (m', cs') → Good (blocks_of m') (current_at m') r
 good_create m cs gs C G m' cs' r e D = good_after begin bare_tree m cs m' cs' r e D (begin_fit (blocks_of m) (free_blocks cs) bare_tree (frees_inside m cs C) G.enough)

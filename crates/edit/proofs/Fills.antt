@@ -19,10 +19,10 @@ use Rattle.edit.proofs.Keeps.{Good, frame, same_live, free_open, laid_parts}
 pub record Opened (gs : List ℕ) (N l : ℕ) (mid : List (ℕ × Tree ℕ ℕ l)) (h : ℕ → ℕ) (q q' : State) : Type 0 where
   pub device : q'.0 ≡ q.0
   pub counted : Counted (block_at q.0) q'.1 (λ b. below l mid b + h b)
-  pub free : Free q.0 q'.1 gs N
+  pub free : Free (q.0, q'.1) gs N
   pub stays : (b : ℕ) → get_or q.1 b 0 ≡ 0 → get_or q'.1 b 0 ≡ 0
 
-pub open_all : (gs : List ℕ) (N l : ℕ) (mid : List (ℕ × Tree ℕ ℕ l)) (h : ℕ → ℕ) (q : State) → Every (Stored (block_at q.0) (suc l)) mid → Counted (block_at q.0) q.1 (λ b. occ b (kids (suc l) mid) + h b) → Free q.0 q.1 gs N
+pub open_all : (gs : List ℕ) (N l : ℕ) (mid : List (ℕ × Tree ℕ ℕ l)) (h : ℕ → ℕ) (q : State) → Every (Stored (block_at q.0) (suc l)) mid → Counted (block_at q.0) q.1 (λ b. occ b (kids (suc l) mid) + h b) → Free q gs N
     → Opened gs N l mid h q (run (opens mid) q)
 open_all gs N l [] h q st c f = record { device = refl; counted = c; free = f; stays = λ b z. z }
 open_all gs N l (e ∷ r) h q st c f =
@@ -42,7 +42,7 @@ open_all gs N l (e ∷ r) h q st c f =
     }
 
 module _ (gs : List ℕ) (N l : ℕ) (mid : List (ℕ × Tree ℕ ℕ l)) (part rest us : List (ℕ × Pay ℕ ℕ l)) (ps : List (ℕ × List (ℕ × Pay ℕ ℕ l))) (ms : List Move) (h : ℕ → ℕ) (q : State) (le : 2 * suc l ≤ N)
-    (st : Every (Stored (block_at q.0) (suc l)) mid) (c : Counted (block_at q.0) q.1 (λ b. occ b (kids (suc l) mid) + h b)) (f : Free q.0 q.1 gs N)
+    (st : Every (Stored (block_at q.0) (suc l)) mid) (c : Counted (block_at q.0) q.1 (λ b. occ b (kids (suc l) mid) + h b)) (f : Free q gs N)
     (sp : Every (Stored (block_at q.0) l) part) (sr : Every (Stored (block_at q.0) l) rest) (split : (b : ℕ) → below l mid b ≡ occ b (kids l part) + occ b (kids l rest)) where
   abbrev x : ℕ
   x = get_or gs (2 * l) 0
@@ -54,7 +54,7 @@ module _ (gs : List ℕ) (N l : ℕ) (mid : List (ℕ × Tree ℕ ℕ l)) (part 
   ls = links l (map_e (λ c. (c.0, shallow l c.1)) (placed x y ps))
 
   -- What is to be shown of an edit: the recursion's own claim, and that the parts stand for what was made and what is left.
-  pub replaced : ((q₁ : State) (h₁ : ℕ → ℕ) → Every (Stored (block_at q₁.0) l) part → Counted (block_at q₁.0) q₁.1 (λ b. occ b (kids l part) + h₁ b) → Free q₁.0 q₁.1 gs N → Laid q₁.0.width ms → Stands gs l h₁ q₁ (run ms q₁) us)
+  pub replaced : ((q₁ : State) (h₁ : ℕ → ℕ) → Every (Stored (block_at q₁.0) l) part → Counted (block_at q₁.0) q₁.1 (λ b. occ b (kids l part) + h₁ b) → Free q₁ gs N → Laid q₁.0.width ms → Stands gs l h₁ q₁ (run ms q₁) us)
       → ((q₂ : State) → get_or q₂.1 x 0 ≡ 0 → x < length q₂.1 → x < blocks_of q₂.0 → get_or q₂.1 y 0 ≡ 0 → y < length q₂.1 → y < blocks_of q₂.0 → (x ≡ y → ⊥) → Every (Stored (block_at q₂.0) l) us → Every (Stored (block_at q₂.0) l) rest
       → Counted (block_at q₂.0) q₂.1 (λ b. occ b (kids l us) + (occ b (kids l rest) + h b)) → Laid q₂.0.width ls → Good l h x y q₂ (run ls q₂) (placed x y ps))
       → Laid q.0.width (opens mid ++ (ms ++ ls)) → Stands gs (suc l) h q (run (opens mid ++ (ms ++ ls)) q) (placed x y ps)
@@ -68,7 +68,7 @@ module _ (gs : List ℕ) (N l : ℕ) (mid : List (ℕ × Tree ℕ ℕ l)) (part 
       let h₁ : ℕ → ℕ = λ b. occ b (kids l rest) + h b in
       let on : (m : Meaning) → Type 0 = λ m. Counted (block_at m) q₁.1 (λ b. occ b (kids l part) + h₁ b) in
       let cp : on q₁.0 = subst on (sym dev) (recount (λ b. below l mid b + h b) (λ b. occ b (kids l part) + h₁ b) (λ b. omega (arith, split b)) o.counted) in
-      let f₁ : Free q₁.0 q₁.1 gs N = subst (λ (m : Meaning). Free m q₁.1 gs N) (sym dev) o.free in
+      let f₁ : Free q₁ gs N = subst (λ (m : Meaning). Free (m, q₁.1) gs N) (sym dev) o.free in
       let to : (es : List (ℕ × Pay ℕ ℕ l)) → Every (Stored (block_at q.0) l) es → Every (Stored (block_at q₁.0) l) es = λ es p. subst (λ (m : Meaning). Every (Stored (block_at m) l) es) (sym dev) p in
       let wide : q₁.0.width ≡ q.0.width = ap (λ (m : Meaning). m.width) dev in
       let S = ih q₁ h₁ (to part sp) cp f₁ (subst (λ (w : ℕ). Laid w ms) (sym wide) lp.0) in
@@ -92,7 +92,7 @@ module _ (gs : List ℕ) (N l : ℕ) (mid : List (ℕ × Tree ℕ ℕ l)) (part 
 
 -- among the other children of the block
 pub among : (gs : List ℕ) (N l : ℕ) (pre mid post us : List (ℕ × Tree ℕ ℕ l)) (h : ℕ → ℕ) (q q' : State) → Every (Stored (block_at q.0) (suc l)) pre → Every (Stored (block_at q.0) (suc l)) post
-    → Counted (block_at q.0) q.1 (λ b. occ b (kids (suc l) (pre ++ (mid ++ post))) + h b) → Free q.0 q.1 gs N → 2 * suc l ≤ N
+    → Counted (block_at q.0) q.1 (λ b. occ b (kids (suc l) (pre ++ (mid ++ post))) + h b) → Free q gs N → 2 * suc l ≤ N
     → Stands gs (suc l) (λ b. (occ b (kids (suc l) pre) + occ b (kids (suc l) post)) + h b) q q' us → Stands gs (suc l) h q q' (pre ++ (us ++ post))
 among gs N l pre mid post us h q q' sp so c f le S =
     let H : ℕ → ℕ = λ b. occ b (kids (suc l) (pre ++ (mid ++ post))) + h b in

@@ -3,6 +3,7 @@ use Rattle.std.proofs.Common.{◌≡◌, ℕ, zero, suc, ◌+◌, ◌*◌, ◌<�
 use Rattle.std.proofs.lemmas.List.{get_or-set_same, get_or-set_other}
 use Rattle.std.proofs.lemmas.Bool.{eq-eqb, ne_eqb, lt-ltb, le-ltb, cases_eq, cases_lt}
 use Rattle.device.specs.Meaning.{Meaning, Cell, blocks_of, no_cell, written_cell}
+use Rattle.device.specs.Cuts.{cell_at}
 use Rattle.tree.specs.Node.{ins, first, at, ahead, Every, map_e}
 use Rattle.tree.specs.Tree.{Pay, Tree}
 use Rattle.tree.proofs.Kept.{every_append, every_take, every_drop}
@@ -14,7 +15,7 @@ use Rattle.counts.proofs.Steps.{link_in}
 use Rattle.counts.proofs.Opens.{recount, open_counted, open_free, length_opened, kids_alive}
 use Rattle.edit.specs.Plan.{shallow, node_of, kids, Stored, chosen, unchosen, parted, placed, links, down, kid_n, put_n, kid_moves, moves}
 use Rattle.counts.specs.Moves.{Move, opening, linking, State, step, run, Laid}
-use Rattle.edit.specs.Kept.{cell_at, Free, Kept, Stands}
+use Rattle.edit.specs.Kept.{Free, Kept, Stands}
 use Rattle.edit.proofs.States.{run_same, run_append}
 use Rattle.edit.proofs.Downs.{kids_append}
 
@@ -180,13 +181,13 @@ pub laid_parts : (w : ℕ) (us vs : List Move) → Laid w (us ++ vs) → Laid w 
 laid_parts w [] vs p = (tt, p)
 laid_parts w (u ∷ us) vs p = let q = laid_parts w us vs p.1 in ((p.0, q.0), q.1)
 
-pub same_live : (gs : List ℕ) (n N : ℕ) (q q' : State) → Free q.0 q.1 gs N → n ≤ N → Kept gs n q q' → (b : ℕ) → 0 < get_or q.1 b 0 → block_at q'.0 b ≡ block_at q.0 b
+pub same_live : (gs : List ℕ) (n N : ℕ) (q q' : State) → Free q gs N → n ≤ N → Kept gs n q q' → (b : ℕ) → 0 < get_or q.1 b 0 → block_at q'.0 b ≡ block_at q.0 b
 same_live gs n N q q' f le k b a = block_at_cells q.0 q'.0 b (k.cells b (λ j lt e. omega (arith, f.count j (omega arith), ap (λ (x : ℕ). get_or q.1 x 0) e)))
 
 pub kept_refl : (gs : List ℕ) (n : ℕ) (q : State) → Kept gs n q q
 kept_refl gs n q = record { cells = λ b o. refl; free = λ b o z. z }
 
-pub free_open : (gs : List ℕ) (N : ℕ) (q : State) (h : ℕ → ℕ) (x : ℕ) → Counted (block_at q.0) q.1 (λ b. one x b + h b) → Free q.0 q.1 gs N → Free q.0 (step (opening x) q).1 gs N
+pub free_open : (gs : List ℕ) (N : ℕ) (q : State) (h : ℕ → ℕ) (x : ℕ) → Counted (block_at q.0) q.1 (λ b. one x b + h b) → Free q gs N → Free (step (opening x) q) gs N
 free_open gs N q h x c f = record {
   count = λ j lt. open_free q.0 q.1 h x (get_or gs j 0) c (f.count j lt);
   on = λ j lt. ((f.on j lt).0, omega (arith, (f.on j lt).1, length_opened (kids_of (block_at q.0 x)) x q.1));
@@ -194,9 +195,9 @@ free_open gs N q h x c f = record {
 }
 
 module _ (gs : List ℕ) (s a N : ℕ) where
-  kid_keeps : (l : ℕ) → ((es : List (ℕ × Pay ℕ ℕ l)) (q : State) (h : ℕ → ℕ) → Every (Stored (block_at q.0) l) es → Counted (block_at q.0) q.1 (λ b. occ b (kids l es) + h b) → Free q.0 q.1 gs N → 2 * l ≤ N
+  kid_keeps : (l : ℕ) → ((es : List (ℕ × Pay ℕ ℕ l)) (q : State) (h : ℕ → ℕ) → Every (Stored (block_at q.0) l) es → Counted (block_at q.0) q.1 (λ b. occ b (kids l es) + h b) → Free q gs N → 2 * l ≤ N
       → Laid q.0.width (moves gs s a l es) → Stands gs l h q (run (moves gs s a l es) q) (put_n gs s a l es))
-      → (k : ℕ) (t : Tree ℕ ℕ l) (q : State) (h : ℕ → ℕ) → Stored (block_at q.0) (suc l) t → Counted (block_at q.0) q.1 (λ b. one t.0 b + h b) → Free q.0 q.1 gs N → 2 * suc l ≤ N
+      → (k : ℕ) (t : Tree ℕ ℕ l) (q : State) (h : ℕ → ℕ) → Stored (block_at q.0) (suc l) t → Counted (block_at q.0) q.1 (λ b. one t.0 b + h b) → Free q gs N → 2 * suc l ≤ N
       → Laid q.0.width (kid_moves gs s a l (moves gs s a l) k t) → Stands gs (suc l) h q (run (kid_moves gs s a l (moves gs s a l) k t) q) (kid_n gs s a l (put_n gs s a l) k t)
   kid_keeps l ih k t q h st c f le laid =
       let m = q.0 in
@@ -236,7 +237,7 @@ module _ (gs : List ℕ) (s a N : ℕ) where
         };
       })
 
-  pub keeps : (l : ℕ) (es : List (ℕ × Pay ℕ ℕ l)) (q : State) (h : ℕ → ℕ) → Every (Stored (block_at q.0) l) es → Counted (block_at q.0) q.1 (λ b. occ b (kids l es) + h b) → Free q.0 q.1 gs N → 2 * l ≤ N
+  pub keeps : (l : ℕ) (es : List (ℕ × Pay ℕ ℕ l)) (q : State) (h : ℕ → ℕ) → Every (Stored (block_at q.0) l) es → Counted (block_at q.0) q.1 (λ b. occ b (kids l es) + h b) → Free q gs N → 2 * l ≤ N
       → Laid q.0.width (moves gs s a l es) → Stands gs l h q (run (moves gs s a l es) q) (put_n gs s a l es)
   keeps zero es q h st c f le laid = record { stored = every_unit (ins s a es); counted = c; kept = kept_refl gs 0 q }
     where
@@ -245,7 +246,7 @@ module _ (gs : List ℕ) (s a N : ℕ) where
       every_unit (e ∷ r) = (tt, every_unit r)
   keeps (suc l) es q h st c f le laid = go (keeps l) es h st c laid
     where
-      go : ((es : List (ℕ × Pay ℕ ℕ l)) (q : State) (h : ℕ → ℕ) → Every (Stored (block_at q.0) l) es → Counted (block_at q.0) q.1 (λ b. occ b (kids l es) + h b) → Free q.0 q.1 gs N → 2 * l ≤ N
+      go : ((es : List (ℕ × Pay ℕ ℕ l)) (q : State) (h : ℕ → ℕ) → Every (Stored (block_at q.0) l) es → Counted (block_at q.0) q.1 (λ b. occ b (kids l es) + h b) → Free q gs N → 2 * l ≤ N
           → Laid q.0.width (moves gs s a l es) → Stands gs l h q (run (moves gs s a l es) q) (put_n gs s a l es))
           → (es : List (ℕ × Tree ℕ ℕ l)) (h : ℕ → ℕ) → Every (Stored (block_at q.0) (suc l)) es → Counted (block_at q.0) q.1 (λ b. occ b (kids (suc l) es) + h b)
           → Laid q.0.width (down s (kid_moves gs s a l (moves gs s a l)) es) → Stands gs (suc l) h q (run (down s (kid_moves gs s a l (moves gs s a l)) es) q) (at s (kid_n gs s a l (put_n gs s a l)) es)

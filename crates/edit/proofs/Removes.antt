@@ -23,8 +23,8 @@ pub halves : (b l n : ℕ) (es : List (ℕ × Pay ℕ ℕ l)) → occ b (kids l 
 halves b l n es = ap (λ (z : List (ℕ × Pay ℕ ℕ l)). occ b (kids l z)) (sym (take-append-drop n es)) ∙ kids_append b l (take n es) (drop n es)
 
 module _ (gs : List ℕ) (s N l : ℕ) (g : List (ℕ × Pay ℕ ℕ l) → List (ℕ × Pay ℕ ℕ l)) (ms : List (ℕ × Pay ℕ ℕ l) → List Move)
-    (ih : (es : List (ℕ × Pay ℕ ℕ l)) (q : State) (h : ℕ → ℕ) → Every (Stored (block_at q.0) l) es → Counted (block_at q.0) q.1 (λ b. occ b (kids l es) + h b) → Free q.0 q.1 gs N → Laid q.0.width (ms es) → Stands gs l h q (run (ms es) q) (g es))
-    (q : State) (f : Free q.0 q.1 gs N) (le : 2 * suc l ≤ N) where
+    (ih : (es : List (ℕ × Pay ℕ ℕ l)) (q : State) (h : ℕ → ℕ) → Every (Stored (block_at q.0) l) es → Counted (block_at q.0) q.1 (λ b. occ b (kids l es) + h b) → Free q gs N → Laid q.0.width (ms es) → Stands gs l h q (run (ms es) q) (g es))
+    (q : State) (f : Free q gs N) (le : 2 * suc l ≤ N) where
   abbrev S1 : List (ℕ × Tree ℕ ℕ l) → Type 0
   S1 es = Every (Stored (block_at q.0) (suc l)) es
 

@@ -38,7 +38,7 @@ ops_targets w [] = refl
 ops_targets w (opening x ∷ vs) = ops_targets w vs
 ops_targets w (linking x n ∷ vs) = ap (λ (z : List ℕ). x ∷ z) (ops_targets w vs)
 
-pub ops_free : (m : Meaning) (cs : List ℕ) (w : ℕ) (vs : List Move) → Each (λ b. (2 ≤ b) × (b < blocks_of m) × (get_or cs b 0 ≡ 0)) (linked vs) → Each (WritesFree m cs) (ops w vs)
+pub ops_free : (m : Meaning) (cs : List ℕ) (w : ℕ) (vs : List Move) → Each (λ b. (2 ≤ b) × (b < blocks_of m) × (get_or cs b 0 ≡ 0)) (linked vs) → Each (WritesFree (m, cs)) (ops w vs)
 ops_free m cs w [] p = tt
 ops_free m cs w (opening x ∷ vs) p = ops_free m cs w vs p
 ops_free m cs w (linking x n ∷ vs) p = (p.0, ops_free m cs w vs p.1)

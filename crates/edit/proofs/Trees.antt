@@ -10,7 +10,7 @@ use Rattle.page.specs.Block.{Block, block_at, block_in, Layout}
 use Rattle.page.specs.Io.{Wide}
 use Rattle.page.specs.Slot.{Root}
 use Rattle.counts.specs.Counts.{one, occ, Counted, free_blocks}
-use Rattle.counts.specs.Moves.{Move, linking, State, state_of, step, run}
+use Rattle.counts.specs.Moves.{Move, linking, State, step, run}
 use Rattle.counts.proofs.Opens.{recount}
 use Rattle.model.specs.TreeBlocks as model
 use Rattle.model.specs.TreeBlocks.{Change, Change.puts, changed_on, new_blocks, block_of, root_of, Each}
@@ -53,20 +53,20 @@ Spare m cs b = (2 ≤ b) × (b < blocks_of m) × (get_or cs b 0 ≡ 0)
 -- moves that leave the tree v, which the change d makes of r
 pub edited_by : (m : Meaning) (cs : List ℕ) (d : Change ℕ) (r : model.Tree) (h : ℕ → ℕ) → Counted (block_at m) cs (λ b. given_up d r b + h b)
     → (v : model.Tree) (vs : List Move) → v ≡ changed_on ℕ d (free_blocks cs) r → Each (Spare m cs) (linked vs) → ((b : ℕ) → occ b (linked vs) ≡ occ b (new_blocks d (free_blocks cs) r))
-    → Stored (block_at (run vs (state_of m cs)).0) (suc v.0) v.1 → Counted (block_at (run vs (state_of m cs)).0) (run vs (state_of m cs)).1 (λ b. one v.1.0 b + h b)
-    → (q : State) → q ≡ run vs (state_of m cs) → Edited d r m cs q.0 q.1
+    → Stored (block_at (run vs (m, cs)).0) (suc v.0) v.1 → Counted (block_at (run vs (m, cs)).0) (run vs (m, cs)).1 (λ b. one v.1.0 b + h b)
+    → (q : State) → q ≡ run vs (m, cs) → Edited d r (m, cs) q
 edited_by m cs d r h old v vs e free once st ct q eq =
-    let z : State = run vs (state_of m cs) in
+    let z : State = run vs (m, cs) in
     let u : model.Tree = changed_on ℕ d (free_blocks cs) r in
     let cu : Counted (block_at z.0) z.1 (λ b. one u.1.0 b + h b) = subst (λ (v : model.Tree). Counted (block_at z.0) z.1 (λ b. one v.1.0 b + h b)) e ct in
-    subst (λ (z : State). Edited d r m cs z.0 z.1) (sym eq) (record {
+    subst (λ (z : State). Edited d r (m, cs) z) (sym eq) (record {
       os = ops m.width vs;
-      trace = run_replay vs (state_of m cs);
+      trace = run_replay vs (m, cs);
       free = ops_free m cs m.width vs free;
       once = λ b. ap (occ b) (ops_targets m.width vs) ∙ once b;
       stored = subst (model.Stored (current_at z.0)) e (to_model z.0 v st);
       counted = λ h' c. recount (λ b. one u.1.0 b + h b) (λ b. one u.1.0 b + h' b) (λ b. omega (arith, c.eqn b, old.eqn b)) cu;
-      sized = (run_same vs (state_of m cs)).counts;
+      sized = (run_same vs (m, cs)).counts;
     })
 
 -- Someone holds the tree r at this root, and others hold h; the grant gs has the lowest free blocks.
@@ -78,7 +78,7 @@ pub record Rooted (m : Meaning) (cs gs : List ℕ) (root : Root) (s : ℕ) (r : 
   pub counted : Counted (block_at m) cs (λ b. one r.1.0 b + h b)
   pub modest : (b : ℕ) → h b ≤ 1000
   pub few : length cs ≤ 4096
-  pub free : Free m cs gs (2 * suc r.0 + 1)
+  pub free : Free (m, cs) gs (2 * suc r.0 + 1)
   pub slots : (j : ℕ) → j < 2 * suc r.0 + 1 → 2 ≤ get_or gs j 0
   pub lowest : (j : ℕ) → j < 2 * suc r.0 + 1 → get_or gs j 0 ≡ get_or (free_blocks cs) j 0
   pub left : 2 * suc r.0 + 1 ≤ m.left
@@ -132,7 +132,7 @@ module _ (m : Meaning) (cs gs : List ℕ) (root : Root) (s : ℕ) (r : model.Tre
   pub low : l ≤ 4
   low = five_high ℕ ℕ l t p.wf
 
-  pub top_ready : (n : Block) → n.level ≡ root.0 → n.entries ≡ (0, root.1) ∷ [] → Ready m cs gs n s (suc l) es
+  pub top_ready : (n : Block) → n.level ≡ root.0 → n.entries ≡ (0, root.1) ∷ [] → Ready (m, cs) gs n s (suc l) es
   top_ready n v e = record {
     is = ap₂ page (omega (arith, v, p.height)) (e ∙ ap (λ (b : ℕ). (0, b) ∷ []) (sym p.at));
     stored = (p.stored, tt);
@@ -152,7 +152,7 @@ module _ (m : Meaning) (cs gs : List ℕ) (root : Root) (s : ℕ) (r : model.Tre
     wide = p.wide;
   }
 
-  pub top_able : (n : Block) → n.level ≡ root.0 → n.entries ≡ (0, root.1) ∷ [] → Able m cs gs n s
+  pub top_able : (n : Block) → n.level ≡ root.0 → n.entries ≡ (0, root.1) ∷ [] → Able (m, cs) gs n s
   top_able n v e = record { l = suc l; es = es; ready = top_ready n v e }
 
   spare : (j : ℕ) → j < N → Spare m cs (get_or gs j 0)
@@ -166,7 +166,7 @@ module _ (m : Meaning) (cs gs : List ℕ) (root : Root) (s : ℕ) (r : model.Tre
     ms = moves gs s a (suc l) es
 
     abbrev q₀ : State
-    q₀ = state_of m cs
+    q₀ = (m, cs)
 
     abbrev u : model.Tree
     u = changed_on ℕ (puts s a) (free_blocks cs) r
@@ -175,7 +175,7 @@ module _ (m : Meaning) (cs gs : List ℕ) (root : Root) (s : ℕ) (r : model.Tre
     unfolding changed_on
     new_is = root_numbers (λ i. get_or (free_blocks cs) i 0) gs s a r p.lowest
 
-    module _ (q : State) (made : Block) (M : Made m cs q.0 q.1 gs s a (suc l) es made) where
+    module _ (q : State) (made : Block) (M : Made (m, cs) q gs s a (suc l) es made) where
       len : length made.entries ≡ length us
       len = ap (λ (x : Block). length x.entries) M.is ∙ map_len us
         where
@@ -214,7 +214,7 @@ module _ (m : Meaning) (cs gs : List ℕ) (root : Root) (s : ℕ) (r : model.Tre
         pub one_root : (root.0, b) ≡ root_of u
         one_root = ap₂ (λ (x y : ℕ). (x, y)) (sym p.height) number ∙ ap (λ (v : model.Tree). root_of v) u_one
 
-        pub one_edited : Edited (puts s a) r m cs q.0 q.1
+        pub one_edited : Edited (puts s a) r (m, cs) q
         one_edited =
             let q₁ : State = run ms q₀ in
             let st : Every (Stored (block_at q₁.0) (suc l)) (o ∷ []) = subst (Every (Stored (block_at q₁.0) (suc l))) one_is S.stored in
@@ -252,7 +252,7 @@ module _ (m : Meaning) (cs gs : List ℕ) (root : Root) (s : ℕ) (r : model.Tre
         pub more_root : (root.0 + 1, x) ≡ root_of u
         more_root = ap (λ (h : ℕ). (h, x)) (omega (arith, p.height)) ∙ ap (λ (v : model.Tree). root_of v) u_more
 
-        pub more_edited : (q' : State) → q' ≡ step (linking x made) q → Layout q.0.width made → Edited (puts s a) r m cs q'.0 q'.1
+        pub more_edited : (q' : State) → q' ≡ step (linking x made) q → Layout q.0.width made → Edited (puts s a) r (m, cs) q'
         more_edited q' e' laid =
             let q₁ : State = run ms q₀ in
             let top : List Move = linking x (node_of (suc l) us) ∷ [] in

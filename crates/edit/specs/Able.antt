@@ -1,12 +1,12 @@
 -- What put needs of a page in memory and of its grant, and what it makes.
 use Rattle.std.specs.Prelude.{◌≡◌, ℕ, zero, suc, ◌+◌, ◌*◌, ◌<◌, ◌≤◌, List, length, slice_index, ◌≢◌}
-use Rattle.device.specs.Meaning.{Meaning, blocks_of}
+use Rattle.device.specs.Meaning.{blocks_of}
 use Rattle.tree.specs.Node.{Seg, Every}
 use Rattle.tree.specs.Tree.{Pay, Gap, Span, Enough}
 use Rattle.page.specs.Block.{Block, block_at}
 use Rattle.page.specs.Io.{Wide}
 use Rattle.counts.specs.Counts.{occ, Counted}
-use Rattle.counts.specs.Moves.{run, Laid}
+use Rattle.counts.specs.Moves.{State, run, Laid}
 use Rattle.edit.specs.Plan.{node_of, kids, Stored, moves, put_n}
 use Rattle.edit.specs.Kept.{Free}
 
@@ -16,9 +16,9 @@ Loose zero k m p = m ≡ suc k
 Loose (suc l) k m t = Span ℕ ℕ l k m t.1 × Enough l (length t.1) × (length t.1 ≤ 15)
 
 -- The page n holds entries es of level l, whose children are in the store and referred to, with room for a row of speed s.
-pub record Ready (m : Meaning) (cs gs : List ℕ) (n : Block) (s l : ℕ) (es : List (ℕ × Pay ℕ ℕ l)) : Type 0 where
+pub record Ready (q : State) (gs : List ℕ) (n : Block) (s l : ℕ) (es : List (ℕ × Pay ℕ ℕ l)) : Type 0 where
   pub is : n ≡ node_of l es
-  pub stored : Every (Stored (block_at m) l) es
+  pub stored : Every (Stored (block_at q.0) l) es
   pub lo : ℕ
   pub hi : ℕ
   pub span : Seg (Gap l) (Loose l) lo hi es
@@ -27,32 +27,32 @@ pub record Ready (m : Meaning) (cs gs : List ℕ) (n : Block) (s l : ℕ) (es : 
   pub room : length es ≤ 14
   pub enough : 0 < l → 0 < length es
   pub others : ℕ → ℕ
-  pub counted : Counted (block_at m) cs (λ b. occ b (kids l es) + others b)
+  pub counted : Counted (block_at q.0) q.1 (λ b. occ b (kids l es) + others b)
   pub modest : (b : ℕ) → others b + 32 * l ≤ 2000
-  pub few : length cs ≤ 4096
-  pub left : 2 * l ≤ m.left
-  pub free : Free m cs gs (2 * l)
-  pub wide : Wide m
+  pub few : length q.1 ≤ 4096
+  pub left : 2 * l ≤ q.0.left
+  pub free : Free q gs (2 * l)
+  pub wide : Wide q.0
 
 -- the page holds entries of some level
-pub record Able (m : Meaning) (cs gs : List ℕ) (n : Block) (s : ℕ) : Type 0 where
+pub record Able (q : State) (gs : List ℕ) (n : Block) (s : ℕ) : Type 0 where
   pub l : ℕ
   pub es : List (ℕ × Pay ℕ ℕ l)
-  pub ready : Ready m cs gs n s l es
+  pub ready : Ready q gs n s l es
 
 -- The page r holds the entries with a row of speed s set to a; the device and the counts came by put's moves, each of which writes a page that has words.
-pub record Made (m : Meaning) (cs : List ℕ) (m' : Meaning) (cs' gs : List ℕ) (s a l : ℕ) (es : List (ℕ × Pay ℕ ℕ l)) (r : Block) : Type 0 where
+pub record Made (q q' : State) (gs : List ℕ) (s a l : ℕ) (es : List (ℕ × Pay ℕ ℕ l)) (r : Block) : Type 0 where
   pub is : r ≡ node_of l (put_n gs s a l es)
-  pub state : (m', cs') ≡ run (moves gs s a l es) (m, cs)
-  pub laid : Laid m.width (moves gs s a l es)
+  pub state : q' ≡ run (moves gs s a l es) q
+  pub laid : Laid q.0.width (moves gs s a l es)
 
 -- the places j and j + 1 of the grant are two free blocks on the device, which has few
-pub record Open (m : Meaning) (cs gs : List ℕ) (j : ℕ) : Type 0 where
-  pub left_on : slice_index gs j < blocks_of m
-  pub left_in : slice_index gs j < length cs
-  pub left_free : slice_index cs (slice_index gs j) ≡ 0
-  pub right_on : slice_index gs (j + 1) < blocks_of m
-  pub right_in : slice_index gs (j + 1) < length cs
-  pub right_free : slice_index cs (slice_index gs (j + 1)) ≡ 0
+pub record Open (q : State) (gs : List ℕ) (j : ℕ) : Type 0 where
+  pub left_on : slice_index gs j < blocks_of q.0
+  pub left_in : slice_index gs j < length q.1
+  pub left_free : slice_index q.1 (slice_index gs j) ≡ 0
+  pub right_on : slice_index gs (j + 1) < blocks_of q.0
+  pub right_in : slice_index gs (j + 1) < length q.1
+  pub right_free : slice_index q.1 (slice_index gs (j + 1)) ≡ 0
   pub apart : slice_index gs j ≢ slice_index gs (j + 1)
-  pub few : length cs ≤ 4096
+  pub few : length q.1 ≤ 4096

@@ -1,38 +1,39 @@
 -- A change of one tree on a counted device: what the code needs, and what it leaves.
 use Rattle.std.specs.Prelude.{◌≡◌, ℕ, ◌+◌, ◌<◌, ◌≤◌, List, length, take, slice_index}
-use Rattle.device.specs.Meaning.{Meaning, blocks_of, current_at}
+use Rattle.device.specs.Meaning.{blocks_of, current_at}
 use Rattle.device.specs.Cuts.{Op, Op.write, Op.flush, replay}
 use Rattle.page.specs.Block.{block_at}
 use Rattle.page.specs.Io.{Wide}
 use Rattle.page.specs.Slot.{Root}
 use Rattle.counts.specs.Counts.{one, occ, Counted, free_blocks}
+use Rattle.counts.specs.Moves.{State}
 use Rattle.model.specs.TreeBlocks.{Tree, Change, Change.begin, Change.puts, Change.takes, changed_on, new_blocks, Stored, Each, Good}
 use Rattle.model.specs.World.{targets}
 
--- the device's width is one that a volume uses, and each of its blocks has a count
-pub record Counting (m : Meaning) (cs : List ℕ) : Type 0 where
-  pub wide : Wide m
-  pub sized : length cs ≡ blocks_of m
-  pub few : length cs ≤ 4096
+-- the device's width is one that a volume uses, and each of its blocks, of which there are few, has a count
+pub record Counting (q : State) : Type 0 where
+  pub wide : Wide q.0
+  pub sized : length q.1 ≡ blocks_of q.0
+  pub few : length q.1 ≤ 4096
 
 -- the counts are right, and one of the references is to this root, whose tree is sound
-pub record Editable (m : Meaning) (cs : List ℕ) (root : Root) : Type 0 where
-  pub counting : Counting m cs
-  pub good : Good (blocks_of m) (current_at m) root
+pub record Editable (q : State) (root : Root) : Type 0 where
+  pub counting : Counting q
+  pub good : Good (blocks_of q.0) (current_at q.0) root
   pub others : ℕ → ℕ
-  pub counted : Counted (block_at m) cs (λ b. one root.1 b + others b)
+  pub counted : Counted (block_at q.0) q.1 (λ b. one root.1 b + others b)
   pub modest : (b : ℕ) → others b ≤ 1000
 
 -- the grant has the n lowest free blocks, and so many writes are left
-pub record Granted (n : ℕ) (m : Meaning) (cs grant : List ℕ) : Type 0 where
-  pub these : grant ≡ take n (free_blocks cs)
-  pub enough : n ≤ length (free_blocks cs)
-  pub left : n ≤ m.left
+pub record Granted (n : ℕ) (q : State) (grant : List ℕ) : Type 0 where
+  pub these : grant ≡ take n (free_blocks q.1)
+  pub enough : n ≤ length (free_blocks q.1)
+  pub left : n ≤ q.0.left
 
 -- a write to a tree block that nothing refers to
-abbrev pub WritesFree : Meaning → List ℕ → Op → Type 0
-WritesFree m cs (write b ws) = (2 ≤ b) × (b < blocks_of m) × (slice_index cs b ≡ 0)
-WritesFree m cs flush = ⊥
+abbrev pub WritesFree : State → Op → Type 0
+WritesFree q (write b ws) = (2 ≤ b) × (b < blocks_of q.0) × (slice_index q.1 b ≡ 0)
+WritesFree q flush = ⊥
 
 -- the reference to the tree before, which a change gives up
 abbrev pub given_up : Change ℕ → Tree → ℕ → ℕ
@@ -42,11 +43,11 @@ given_up (takes s) t b = one t.1.0 b
 
 -- The tree t is changed: only its new blocks are written, each once, and they were free; the new tree stands on the device;
 -- and a reference to it has taken the place of the one to t, whatever other references there are.
-pub record Edited (d : Change ℕ) (t : Tree) (m : Meaning) (cs : List ℕ) (m' : Meaning) (cs' : List ℕ) : Type 0 where
+pub record Edited (d : Change ℕ) (t : Tree) (q q' : State) : Type 0 where
   pub os : List Op
-  pub trace : m' ≡ replay os m
-  pub free : Each (WritesFree m cs) os
-  pub once : (b : ℕ) → occ b (targets os) ≡ occ b (new_blocks d (free_blocks cs) t)
-  pub stored : Stored (current_at m') (changed_on ℕ d (free_blocks cs) t)
-  pub counted : (h : ℕ → ℕ) → Counted (block_at m) cs (λ b. given_up d t b + h b) → Counted (block_at m') cs' (λ b. one (changed_on ℕ d (free_blocks cs) t).1.0 b + h b)
-  pub sized : length cs' ≡ length cs
+  pub trace : q'.0 ≡ replay os q.0
+  pub free : Each (WritesFree q) os
+  pub once : (b : ℕ) → occ b (targets os) ≡ occ b (new_blocks d (free_blocks q.1) t)
+  pub stored : Stored (current_at q'.0) (changed_on ℕ d (free_blocks q.1) t)
+  pub counted : (h : ℕ → ℕ) → Counted (block_at q.0) q.1 (λ b. given_up d t b + h b) → Counted (block_at q'.0) q'.1 (λ b. one (changed_on ℕ d (free_blocks q.1) t).1.0 b + h b)
+  pub sized : length q'.1 ≡ length q.1

@@ -1,6 +1,7 @@
 -- What put leaves as it was, and what stands afterwards.
-use Rattle.std.specs.Prelude.{◌≡◌, ℕ, ◌+◌, ◌*◌, ◌<◌, List, length, ◌≢◌, slice_index, slice_index_or}
-use Rattle.device.specs.Meaning.{Meaning, Cell, blocks_of, no_cell}
+use Rattle.std.specs.Prelude.{◌≡◌, ℕ, ◌+◌, ◌*◌, ◌<◌, List, length, ◌≢◌, slice_index}
+use Rattle.device.specs.Meaning.{blocks_of}
+use Rattle.device.specs.Cuts.{cell_at}
 use Rattle.tree.specs.Node.{Every}
 use Rattle.tree.specs.Tree.{Pay}
 use Rattle.page.specs.Block.{block_at}
@@ -8,13 +9,10 @@ use Rattle.counts.specs.Counts.{occ, Counted}
 use Rattle.edit.specs.Plan.{kids, Stored}
 use Rattle.counts.specs.Moves.{State}
 
-abbrev pub cell_at : Meaning → ℕ → Cell
-cell_at m b = slice_index_or m.cells b no_cell
-
 -- the first n places of the grant are free, on the device, and apart
-pub record Free (m : Meaning) (cs gs : List ℕ) (n : ℕ) : Type 0 where
-  pub count : (j : ℕ) → j < n → slice_index cs (slice_index gs j) ≡ 0
-  pub on : (j : ℕ) → j < n → (slice_index gs j < blocks_of m) × (slice_index gs j < length cs)
+pub record Free (q : State) (gs : List ℕ) (n : ℕ) : Type 0 where
+  pub count : (j : ℕ) → j < n → slice_index q.1 (slice_index gs j) ≡ 0
+  pub on : (j : ℕ) → j < n → (slice_index gs j < blocks_of q.0) × (slice_index gs j < length q.1)
   pub apart : (i j : ℕ) → i < j → j < n → slice_index gs i ≢ slice_index gs j
 
 -- b is none of the first n places

@@ -14,12 +14,9 @@ module _ {X : Type 0} where
   abbrev pub short : List (ℕ × X) → Bool
   short es = length es == 7
 
-  -- A child xs with its right neighbour ys: where the work goes on, what is left of the two, and the parts that stand for them.
+  -- A child xs with its right neighbour ys: where the work goes on, and the parts that stand for the two.
   abbrev pub work_r : List (ℕ × X) → List (ℕ × X) → List (ℕ × X)
   work_r xs ys = cond (short xs) (cond (short ys) (xs ++ ys) (xs ++ take 1 ys)) xs
-
-  abbrev pub rest_r : List (ℕ × X) → List (ℕ × X) → List (ℕ × X)
-  rest_r xs ys = cond (short xs) (cond (short ys) [] (drop 1 ys)) []
 
   abbrev pub parts_r : ℕ → List (ℕ × X) → List (ℕ × X) → List (ℕ × X) → List (ℕ × List (ℕ × X))
   parts_r k xs ys made = cond (short xs) (cond (short ys) ((k, made) ∷ []) ((k, made) ∷ (first (drop 1 ys), drop 1 ys) ∷ [])) ((k, made) ∷ [])
@@ -27,9 +24,6 @@ module _ {X : Type 0} where
   -- The last child ys with its left neighbour xs.
   abbrev pub work_l : List (ℕ × X) → List (ℕ × X) → List (ℕ × X)
   work_l xs ys = cond (short ys) (cond (short xs) (xs ++ ys) (drop (length xs - 1) xs ++ ys)) ys
-
-  abbrev pub rest_l : List (ℕ × X) → List (ℕ × X) → List (ℕ × X)
-  rest_l xs ys = cond (short ys) (cond (short xs) [] (take (length xs - 1) xs)) []
 
   abbrev pub parts_l : ℕ → ℕ → List (ℕ × X) → List (ℕ × X) → List (ℕ × X) → List (ℕ × List (ℕ × X))
   parts_l k j xs ys made = cond (short ys) (cond (short xs) ((k, made) ∷ []) ((k, take (length xs - 1) xs) ∷ (first (drop (length xs - 1) xs), made) ∷ [])) ((j, made) ∷ [])
@@ -83,7 +77,7 @@ module _ (gs : List ℕ) (s : ℕ) where
 
 -- Remove's moves keep the counts' equation, what they make is stored, and blocks outside the places stay as they are.
 abbrev pub RemoveKeeps : Type 0
-RemoveKeeps = (gs : List ℕ) (s N l : ℕ) (es : List (ℕ × Pay ℕ ℕ l)) (q : State) (h : ℕ → ℕ) → Every (Stored (block_at q.0) l) es → Counted (block_at q.0) q.1 (λ b. occ b (kids l es) + h b) → Free q.0 q.1 gs N → 2 * l ≤ N
+RemoveKeeps = (gs : List ℕ) (s N l : ℕ) (es : List (ℕ × Pay ℕ ℕ l)) (q : State) (h : ℕ → ℕ) → Every (Stored (block_at q.0) l) es → Counted (block_at q.0) q.1 (λ b. occ b (kids l es) + h b) → Free q gs N → 2 * l ≤ N
     → Laid q.0.width (rem_moves gs s l es) → Stands gs l h q (run (rem_moves gs s l es) q) (rem_n gs s l es)
 
 -- Remove on numbers is remove, with the numbers of the grant forgotten.

@@ -50,7 +50,7 @@ fn link_kids<D: Device>(
     made: &Page,
     speed: u32,
 ) -> Kids
-    requires places { Open store.old.0 store.old.1 grant.old 0 }
+    requires places { Open store.old grant.old 0 }
     requires two { 2 ≤ length grant.old }
     requires left { 2 ≤ store.old.0.left }
     requires level { (child.now.level < 5) × (made.now.level ≡ child.now.level) }
@@ -86,9 +86,9 @@ fn link_kids<D: Device>(
 
 // The page with a row put below it: its altered children are written and linked, the page itself is not.
 fn put_in<D: Device>(store: &mut Store<D>, grant: &mut Grant, page: &Page, row: Entry) -> Page
-    requires able { Able store.old.0 store.old.1 grant.old (view page.now) row.speed }
+    requires able { Able store.old grant.old (view page.now) row.speed }
     requires enough { 2 * page.now.level ≤ length grant.old }
-    ensures made { (l : ℕ) (es : List (ℕ × Pay ℕ ℕ l)) → Ready store.old.0 store.old.1 grant.old (view page.now) row.speed l es → Made store.old.0 store.old.1 store.new.0 store.new.1 grant.old row.speed row.value l es (view result) }
+    ensures made { (l : ℕ) (es : List (ℕ × Pay ℕ ℕ l)) → Ready store.old grant.old (view page.now) row.speed l es → Made store.old store.new grant.old row.speed row.value l es (view result) }
     ensures grant { grant.new ≡ drop (2 * page.now.level) grant.old }
 {
     if page.level == 0 {
@@ -105,11 +105,11 @@ fn put_in<D: Device>(store: &mut Store<D>, grant: &mut Grant, page: &Page, row: 
 
 // Puts a row into a tree: the tree that results is held in its place. A full root is split, and gets a new root above.
 pub fn put_tree<D: Device>(store: &mut Store<D>, root: Root, row: Entry, mut grant: Grant) -> Root
-    requires editable { Editable store.old.0 store.old.1 (root.height, root.block) }
-    requires granted { Granted (2 * root.height + 1) store.old.0 store.old.1 grant }
+    requires editable { Editable store.old (root.height, root.block) }
+    requires granted { Granted (2 * root.height + 1) store.old grant }
     requires row { (row.speed < 10000) × (row.value ≤ 18000) }
     ensures root { (result.height, result.block) ≡ root_of (changed_on ℕ (puts row.speed row.value) (free_blocks store.old.1) (tree_at (current_at store.old.0) (root.height, root.block))) }
-    ensures edited { Edited (puts row.speed row.value) (tree_at (current_at store.old.0) (root.height, root.block)) store.old.0 store.old.1 store.new.0 store.new.1 }
+    ensures edited { Edited (puts row.speed row.value) (tree_at (current_at store.old.0) (root.height, root.block)) store.old store.new }
     ensures good { Good (blocks_of store.new.0) (current_at store.new.0) (result.height, result.block) }
 {
     let above = Page::new(
@@ -139,10 +139,10 @@ pub fn put_tree<D: Device>(store: &mut Store<D>, root: Root, row: Entry, mut gra
 
 // Makes a tree of one leaf with no row, and holds it.
 pub fn create_tree<D: Device>(store: &mut Store<D>, mut grant: Grant) -> Root
-    requires counting { Counting store.old.0 store.old.1 }
-    requires granted { Granted 1 store.old.0 store.old.1 grant }
+    requires counting { Counting store.old }
+    requires granted { Granted 1 store.old grant }
     ensures root { (result.height, result.block) ≡ root_of (changed_on ℕ begin (free_blocks store.old.1) bare_tree) }
-    ensures edited { Edited begin bare_tree store.old.0 store.old.1 store.new.0 store.new.1 }
+    ensures edited { Edited begin bare_tree store.old store.new }
     ensures good { Good (blocks_of store.new.0) (current_at store.new.0) (result.height, result.block) }
 {
     let block = grant.take();

@@ -28,9 +28,9 @@ at_zero zero b = refl
 at_zero (suc n) zero = refl
 at_zero (suc n) (suc b) = at_zero n b
 
-pub counting_none : (m : Meaning) (cs : List ℕ) → blocks_of m ≤ 4096 → cs ≡ replicate (blocks_of m) 0 → Counting m cs []
+pub counting_none : (m : Meaning) (cs : List ℕ) → blocks_of m ≤ 4096 → cs ≡ replicate (blocks_of m) 0 → Counting (m, cs) []
 counting_none m cs few e =
-    subst (λ ds. Counting m ds []) (sym e)
+    subst (λ ds. Counting (m, ds) []) (sym e)
     (record {
       long = length-replicate (blocks_of m) 0;
       few = omega (arith, length-replicate {A = ℕ} (blocks_of m) 0, few);
@@ -45,7 +45,7 @@ outs roots b x = (occ x roots + one b x) + (occ x roots + one b x)
 outs_few : (roots : List ℕ) (b x : ℕ) → length roots ≤ 23 → outs roots b x ≤ 48
 outs_few roots b x h = ⊎_elim (λ e. omega (arith, one_same b x e, occ_le x roots)) (λ ne. omega (arith, one_other b x ne, occ_le x roots)) (cases_eq x b)
 
-pub ready_room : (m : Meaning) (cs : List ℕ) (b : ℕ) → Ready m cs → Room m cs (b ∷ [])
+pub ready_room : (m : Meaning) (cs : List ℕ) (b : ℕ) → Ready (m, cs) → Room (m, cs) (b ∷ [])
 ready_room m cs b r = record {
   outside = outs r.roots b;
   others = one b;
@@ -74,7 +74,7 @@ top_low zero l = omega arith
 top_low (suc h) l = omega arith
 
 -- a clone whose tree has no fault
-module _ (m : Meaning) (cs : List ℕ) (r : Root) (y : Ready m cs) (low : r.0 ≤ 5) (lt : r.1 < blocks_of m) (k : fault_of (blocks_of m) (current_at m) r ≡ None) where
+module _ (m : Meaning) (cs : List ℕ) (r : Root) (y : Ready (m, cs)) (low : r.0 ≤ 5) (lt : r.1 < blocks_of m) (k : fault_of (blocks_of m) (current_at m) r ≡ None) where
   abbrev b : ℕ
   b = r.1
 
@@ -97,7 +97,7 @@ module _ (m : Meaning) (cs : List ℕ) (r : Root) (y : Ready m cs) (low : r.0 �
   walked_small = count_small m ds (b ∷ []) b
       (record { outside = outs y.roots b; others = λ x. 0; owing = λ x. omega (arith, after x); modest = λ x. outs_few y.roots b x y.few; sized = walked_long; few = walked_few })
 
-  pub counting_step : Counting m (retained b ds) (y.roots ++ b ∷ [])
+  pub counting_step : Counting (m, retained b ds) (y.roots ++ b ∷ [])
   counting_step =
       let h : ℕ → ℕ = outs y.roots b in
       let own : Owing (block_at m) ds h (λ x. one b x + 0) = λ x. omega (arith, after x) in
@@ -115,8 +115,8 @@ module _ (m : Meaning) (cs : List ℕ) (r : Root) (y : Ready m cs) (low : r.0 �
 abbrev pub roots_at : Option Root → List ℕ
 roots_at p = roots_of (p ∷ [])
 
-pub counting_place : (m : Meaning) (n : ℕ) (cs : List ℕ) (p : Option Root) (y : Ready m cs) → rooted (blocks_of m) p ≡ true → Ok tt ≡ place_walk m n p → Counting m (count_at m p cs) (y.roots ++ roots_at p)
-counting_place m n cs None y g k = subst (Counting m cs) (sym (append-nil y.roots)) y.counting
+pub counting_place : (m : Meaning) (n : ℕ) (cs : List ℕ) (p : Option Root) (y : Ready (m, cs)) → rooted (blocks_of m) p ≡ true → Ok tt ≡ place_walk m n p → Counting (m, count_at m p cs) (y.roots ++ roots_at p)
+counting_place m n cs None y g k = subst (Counting (m, cs)) (sym (append-nil y.roots)) y.counting
 counting_place m n cs (Some r) y g k =
     let f = rooted_parts (blocks_of m) r g in
     counting_step m cs r y f.high f.within (passes_none n (fault_of (blocks_of m) (current_at m) r) k)
@@ -135,7 +135,7 @@ roots_few (suc i) [] = omega arith
 roots_few (suc i) (None ∷ ps) = omega (arith, roots_few i ps)
 roots_few (suc i) (Some r ∷ ps) = omega (arith, roots_few i ps)
 
-pub counted : (m : Meaning) (cs : List ℕ) (x : ℕ × Table) → Counting m cs (roots_of x.1) → Counted (block_at m) cs (rootings (fresh x))
+pub counted : (m : Meaning) (cs : List ℕ) (x : ℕ × Table) → Counting (m, cs) (roots_of x.1) → Counted (block_at m) cs (rootings (fresh x))
 counted m cs x c = record {
   eqn = λ b. omega (arith, c.owing b, occ_append b (roots_of x.1) (roots_of x.1));
   nodes = λ z p. ((c.fine z p).some, (c.fine z p).low);

@@ -23,7 +23,7 @@ use Rattle.mount.proofs.Blocks.{split_fault, loaded_made}
 use Rattle.mount.proofs.Tally.{tallies, count_first}
 
 -- Counts stay small.
-pub count_small : (m : Meaning) (cs due : List ℕ) (b : ℕ) → Room m cs due → get_or cs b 0 < 65535
+pub count_small : (m : Meaning) (cs due : List ℕ) (b : ℕ) → Room (m, cs) due → get_or cs b 0 < 65535
 count_small m cs due b r =
     omega (arith, r.owing b, r.modest b, r.few, parents_le (λ x. kids_of (block_at m x)) cs b (few_kids m))
 
@@ -80,15 +80,15 @@ module _ (m : Meaning) (d : Due) (p : Page) (es : List (ℕ × ℕ)) (ld : Loade
   first_among : 0 < d.level → first_fault m d ≡ among (child_fault m d) d.high es
   first_among up = first_below ∙ below_index (blocks_of m) (current_at m) d.level d.high es up
 
-  pub start_room : (counting first : Bool) (cs cs' : List ℕ) → 0 < d.level → d.block < blocks_of m → (counting ≡ true → Room m cs (d.block ∷ []))
-      → first ≡ (counting && eqb (get_or cs d.block 0) 0) → cs' ≡ cond counting (retained d.block cs) cs → first ≡ true → Room m cs' (kids es)
+  pub start_room : (counting first : Bool) (cs cs' : List ℕ) → 0 < d.level → d.block < blocks_of m → (counting ≡ true → Room (m, cs) (d.block ∷ []))
+      → first ≡ (counting && eqb (get_or cs d.block 0) 0) → cs' ≡ cond counting (retained d.block cs) cs → first ≡ true → Room (m, cs') (kids es)
   start_room counting first cs cs' up lt room ef ec t =
       let a = and_parts counting (eqb (get_or cs d.block 0) 0) (sym ef ∙ t) in
       let z = eqb-true (get_or cs d.block 0) 0 a.1 in
       let r = room a.0 in
       let longer = length-set cs d.block (get_or cs d.block 0 + 1) in
       let e : cs' ≡ retained d.block cs = ec ∙ ap (λ x. cond x (retained d.block cs) cs) a.0 in
-      subst (λ ds. Room m ds (kids es)) (sym e)
+      subst (λ ds. Room (m, ds) (kids es)) (sym e)
       (record {
         outside = r.outside;
         others = r.others;
@@ -154,7 +154,7 @@ child_answer m mᵢ d p xs i high e r same kept up a =
     a ∙ ap (λ m. passes d.clone (child_fault m d e.speed high e.value)) kept ∙ ap (λ u. passes d.clone (child_fault m d e.speed u e.value)) (up ∙ ap (λ xs. next d.high (drop (i + 1) (map pair xs))) (sym same))
 
 -- the next child's reference is due
-pub next_room : (m : Meaning) (cs : List ℕ) (es rest : List (ℕ × ℕ)) (s c : ℕ) → es ≡ (s, c) ∷ rest → Room m cs (kids es) → Room m cs (c ∷ [])
+pub next_room : (m : Meaning) (cs : List ℕ) (es rest : List (ℕ × ℕ)) (s c : ℕ) → es ≡ (s, c) ∷ rest → Room (m, cs) (kids es) → Room (m, cs) (c ∷ [])
 next_room m cs es rest s c e r = record {
   outside = r.outside;
   others = λ b. occ b (kids rest) + r.others b;
@@ -169,11 +169,11 @@ pub among_step : (f : ℕ → ℕ → ℕ → Option Fault) (hi : ℕ) (es rest 
 among_step f hi es rest all s c e k inv = sym (ap (λ o. option_or o (among f hi rest)) k) ∙ sym (ap (among f hi) e) ∙ inv
 
 module _ (m : Meaning) (l s hi c : ℕ) (first : Bool) (cs ds : List ℕ) (low : l < 5) (lt : c < blocks_of m) (k : fault_at (blocks_of m) (current_at m) 7 l s hi c ≡ None) (e : ds ≡ cond first (tallied m l c cs) cs) where
-  pub room_step : (es rest : List (ℕ × ℕ)) → es ≡ (s, c) ∷ rest → (first ≡ true → Room m cs (kids es)) → first ≡ true → Room m ds (kids rest)
+  pub room_step : (es rest : List (ℕ × ℕ)) → es ≡ (s, c) ∷ rest → (first ≡ true → Room (m, cs) (kids es)) → first ≡ true → Room (m, ds) (kids rest)
   room_step es rest q room t =
       let r = room t in
       let w = tallies m 7 l s hi c cs low (omega (arith, lt, r.sized)) r.sized k in
-      subst (λ zs. Room m zs (kids rest)) (sym (e ∙ ap (λ x. cond x (tallied m l c cs) cs) t))
+      subst (λ zs. Room (m, zs) (kids rest)) (sym (e ∙ ap (λ x. cond x (tallied m l c cs) cs) t))
       (record {
         outside = r.outside;
         others = r.others;

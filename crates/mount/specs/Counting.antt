@@ -5,6 +5,7 @@ use Rattle.page.specs.Block.{block_at}
 use Rattle.page.specs.Slot.{Root, Table}
 use Rattle.counts.specs.Counts.{occ}
 use Rattle.counts.specs.Keeping.{retained}
+use Rattle.counts.specs.Moves.{State}
 use Rattle.model.specs.declared.refusal.Refusal.{Refusal}
 use Rattle.model.specs.TreeBlocks.{top_level}
 use Rattle.model.specs.Walk.{Fault, least, fault_of, walk}
@@ -22,11 +23,12 @@ abbrev pub place_walk : Meaning → ℕ → Option Root → Result Unit Refusal
 place_walk m k None = Ok tt
 place_walk m k (Some r) = passes k (fault_of (blocks_of m) (current_at m) r)
 
--- the walk of the clones from number k on
+-- no fault, or the refusal that a clone's fault is
 abbrev pub verdict : Option (ℕ × Fault) → Result Unit Refusal
 verdict None = Ok tt
 verdict (Some f) = Err (faulty f)
 
+-- the walk of the clones from number k on
 abbrev pub table_walk : Meaning → ℕ → Table → Result Unit Refusal
 table_walk m k t = verdict (walk (blocks_of m) (current_at m) k t)
 
@@ -36,14 +38,14 @@ count_at m None cs = cs
 count_at m (Some r) cs = retained r.1 (tallied m (top_level r.0) r.1 cs)
 
 -- the counts of few blocks are right for these roots, each twice
-pub record Counting (m : Meaning) (cs roots : List ℕ) : Type 0 where
-  pub long : length cs ≡ blocks_of m
-  pub few : length cs ≤ 4096
-  pub owing : Owing (block_at m) cs (λ b. occ b roots + occ b roots) (λ b. 0)
-  pub fine : (x : ℕ) → 0 < slice_index cs x → Fine (block_at m) x
+pub record Counting (q : State) (roots : List ℕ) : Type 0 where
+  pub long : length q.1 ≡ blocks_of q.0
+  pub few : length q.1 ≤ 4096
+  pub owing : Owing (block_at q.0) q.1 (λ b. occ b roots + occ b roots) (λ b. 0)
+  pub fine : (x : ℕ) → 0 < slice_index q.1 x → Fine (block_at q.0) x
 
 -- .. and there is room for one more
-pub record Ready (m : Meaning) (cs : List ℕ) : Type 0 where
+pub record Ready (q : State) : Type 0 where
   pub roots : List ℕ
-  pub counting : Counting m cs roots
+  pub counting : Counting q roots
   pub few : length roots ≤ 23

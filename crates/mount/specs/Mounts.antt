@@ -4,6 +4,7 @@ use Rattle.device.specs.Meaning.{Meaning, Lawful, words, written, blocks_of, cur
 use Rattle.page.specs.Block.{block_at}
 use Rattle.page.specs.Slot.{Table, slot_words, SlotFits}
 use Rattle.counts.specs.Counts.{Counted}
+use Rattle.counts.specs.Moves.{State}
 use Rattle.model.specs.declared.refusal.Refusal.{Refusal}
 use Rattle.model.specs.declared.refusal.Refusal.TheVariants.{Shape, NoMemory}
 use Rattle.model.specs.TreeBlocks.{Good, AllGood}
@@ -38,9 +39,9 @@ abbrev pub MountExact : Type 0
 MountExact = (m : Meaning) (x : ℕ × Table) → Lawful m → (found m ≡ Ok x → Kept m x) × (Kept m x → found m ≡ Ok x)
 
 -- a device that a volume fits on, with counts of no references
-pub record Blank (m : Meaning) (cs : List ℕ) : Type 0 where
-  pub fit : sizes (blocks_of m) m.width ≡ true
-  pub none : cs ≡ replicate (blocks_of m) 0
+pub record Blank (q : State) : Type 0 where
+  pub fit : sizes (blocks_of q.0) q.0.width ≡ true
+  pub none : q.1 ≡ replicate (blocks_of q.0) 0
 
 -- no counts: the device does not fit, or there is no memory for them
 abbrev pub Countless : Meaning → Refusal → Type 0

@@ -4,6 +4,7 @@ use Rattle.device.specs.Meaning.{Meaning, blocks_of}
 use Rattle.page.specs.Block.{Block, block_at, kids_of, level_of}
 use Rattle.counts.specs.Counts.{occ, parents}
 use Rattle.counts.specs.Keeping.{retained}
+use Rattle.counts.specs.Moves.{State}
 use Rattle.model.specs.TreeBlocks.{entries_in}
 
 -- the count equation, where the references `owed` are known and not counted yet
@@ -25,13 +26,13 @@ abbrev pub kids : List (ℕ × ℕ) → List ℕ
 kids es = map (λ e. e.1) es
 
 -- references to the blocks `due`, and some others, are known and not counted yet; few are from outside, and there are few blocks
-pub record Room (m : Meaning) (cs due : List ℕ) : Type 0 where
+pub record Room (q : State) (due : List ℕ) : Type 0 where
   pub outside : ℕ → ℕ
   pub others : ℕ → ℕ
-  pub owing : Owing (block_at m) cs outside (λ b. occ b due + others b)
+  pub owing : Owing (block_at q.0) q.1 outside (λ b. occ b due + others b)
   pub modest : (b : ℕ) → outside b ≤ 48
-  pub sized : length cs ≡ blocks_of m
-  pub few : length cs ≤ 4096
+  pub sized : length q.1 ≡ blocks_of q.0
+  pub few : length q.1 ≤ 4096
 
 -- a tree block, whose children are one level below
 pub record Fine (g : ℕ → Option Block) (x : ℕ) : Type 0 where

@@ -43,7 +43,7 @@ fn is_fitting(blocks: u32, width: u32) -> bool
 
 // Counts of no references, for a device that a volume fits on.
 pub fn no_counts<D: Device>(heap: Global, device: &D) -> Result<Counts, Refusal>
-    ensures { MatchResult result (λ c. Blank (D.Device.meaning device.now) c.of.items) (λ e. Countless (D.Device.meaning device.now) e) }
+    ensures { MatchResult result (λ c. Blank (D.Device.meaning device.now, c.of.items)) (λ e. Countless (D.Device.meaning device.now) e) }
 {
     let blocks = device.blocks();
     if !is_fitting(blocks, device.width()) {
@@ -55,9 +55,9 @@ pub fn no_counts<D: Device>(heap: Global, device: &D) -> Result<Counts, Refusal>
 
 // Finds the slot that is used, walks the trees of its clones, and counts their references.
 fn count_clones<D: Device>(store: &mut Store<D>) -> Result<Slot, Refusal>
-    requires { Blank store.old.0 store.old.1 }
+    requires { Blank store.old }
     ensures kept { store.new.0 ≡ store.old.0 }
-    ensures answer { MatchResult result (λ s. (found store.old.0 ≡ Ok (slot_of s)) × Counting store.old.0 store.new.1 (roots_of (slot_of s).1)) (λ e. found store.old.0 ≡ Err e) }
+    ensures answer { MatchResult result (λ s. (found store.old.0 ≡ Ok (slot_of s)) × Counting (store.old.0, store.new.1) (roots_of (slot_of s).1)) (λ e. found store.old.0 ≡ Err e) }
 {
     let slot = read_table(store).ok_or(Refusal::NoVolume)?;
     walk_clones(store, &slot)?;
@@ -66,7 +66,7 @@ fn count_clones<D: Device>(store: &mut Store<D>) -> Result<Slot, Refusal>
 
 // Mounts the volume that a device holds, with counts at hand, or gives the device back with the reason why it holds none.
 pub fn mount_over<D: Device>(device: D, counts: Counts) -> Result<Mounted<D>, (D, Refusal)>
-    requires { Blank (D.Device.meaning device) counts.of.items }
+    requires { Blank (D.Device.meaning device, counts.of.items) }
     ensures kept { MatchResult result (λ v. v.store.0 ≡ D.Device.meaning device) (λ e. D.Device.meaning e.0 ≡ D.Device.meaning device) }
     ensures answer { MatchResult result (λ v. Accepted (D.Device.meaning device) (slot_of v.slot) v.store.1) (λ e. Off (D.Device.meaning device) e.1) }
 {

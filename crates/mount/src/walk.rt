@@ -133,7 +133,7 @@ fn meet<D: Device>(store: &mut Store<D>, block: u32, counting: bool) -> bool
 pub fn walk<D: Device>(store: &mut Store<D>, due: Due, counting: bool) -> Result<(), Refusal>
     requires within { due.block < blocks_of store.old.0 }
     requires low { due.level < 5 }
-    requires room { counting ≡ true → Room store.old.0 store.old.1 (due.block ∷ []) }
+    requires room { counting ≡ true → Room store.old (due.block ∷ []) }
     ensures kept { store.new.0 ≡ store.old.0 }
     ensures answer { result ≡ passes due.clone (first_fault store.old.0 due) }
     ensures counts { OnOk result (store.new.1 ≡ (if counting then tallied store.old.0 due.level due.block store.old.1 else store.old.1)) }

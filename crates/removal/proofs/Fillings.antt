@@ -12,7 +12,7 @@ use Rattle.page.specs.declared.page.Entry.{Entry}
 use Rattle.page.proofs.Pages.{entries_length, entries_at}
 use Rattle.counts.specs.Counts.{one, occ, Counted}
 use Rattle.counts.proofs.Opens.{recount, open_counted, length_opened, few_kids, occ_le, held_alive}
-use Rattle.counts.specs.Moves.{opening, State, state_of, step, Owned}
+use Rattle.counts.specs.Moves.{opening, State, step, Owned}
 use Rattle.edit.specs.Plan.{shallow, page, node_of, kids, Stored}
 use Rattle.edit.proofs.Downs.{kids_append, kids_around, kids_le, shallow_length}
 use Rattle.removal.specs.declared.filled.Neighbour.TheVariants.{Apart, Merged, After, Before}
@@ -22,7 +22,7 @@ use Rattle.removal.proofs.Indexed.{Covers, cut_two, seg_pair}
 use Rattle.removal.proofs.Splits.{right_apart, right_merged, right_moved, left_apart, left_merged, left_moved}
 use Rattle.removal.proofs.Flat.{flat_append, flat_take, flat_drop}
 
-module _ (m : Meaning) (cs : List ℕ) (n : Block) (s l : ℕ) (es : List (ℕ × Tree ℕ ℕ l)) (p : Ready m cs n s (suc l) es) where
+module _ (m : Meaning) (cs : List ℕ) (n : Block) (s l : ℕ) (es : List (ℕ × Tree ℕ ℕ l)) (p : Ready (m, cs) n s (suc l) es) where
   abbrev D : ℕ × Tree ℕ ℕ l
   D = (0, (0, []))
 
@@ -42,7 +42,7 @@ module _ (m : Meaning) (cs : List ℕ) (n : Block) (s l : ℕ) (es : List (ℕ �
     high = λ h. omega (arith, a.high (omega (arith, len)), ap (λ (x : ℕ × ℕ). x.0) (entry (suc i)));
   }
     where
-      start : (es : List (ℕ × Tree ℕ ℕ l)) → Ready m cs n s (suc l) es → (get_or es 0 D).0 ≤ s
+      start : (es : List (ℕ × Tree ℕ ℕ l)) → Ready (m, cs) n s (suc l) es → (get_or es 0 D).0 ≤ s
       start [] p = omega arith
       start (e ∷ r) p = omega (arith, p.low, p.span.0)
 
@@ -58,7 +58,7 @@ module _ (m : Meaning) (cs : List ℕ) (n : Block) (s l : ℕ) (es : List (ℕ �
   child_is j b h e x t = let q : Some x ≡ Some (node_of l (get_or es j D).1.1) = sym t ∙ ap (block_at m) e ∙ node j h in cc
 
   -- one child is held
-  pub owned : (j b : ℕ) → j < length es → b ≡ (get_or es j D).1.0 → Owned m cs b
+  pub owned : (j b : ℕ) → j < length es → b ≡ (get_or es j D).1.0 → Owned (m, cs) b
   owned j b h e =
       let rest : ℕ → ℕ = λ c. (occ c (kids (suc l) (take j es)) + occ c (kids (suc l) (drop (suc j) es))) + p.others c in
       record {
@@ -69,27 +69,27 @@ module _ (m : Meaning) (cs : List ℕ) (n : Block) (s l : ℕ) (es : List (ℕ �
       }
 
   -- once it is opened, so is the next
-  pub owned_next : (i b b₂ : ℕ) → suc i < length es → b ≡ (get_or es i D).1.0 → b₂ ≡ (get_or es (suc i) D).1.0 → (q : State) → q ≡ step (opening b) (state_of m cs) → Owned q.0 q.1 b₂
+  pub owned_next : (i b b₂ : ℕ) → suc i < length es → b ≡ (get_or es i D).1.0 → b₂ ≡ (get_or es (suc i) D).1.0 → (q : State) → q ≡ step (opening b) (m, cs) → Owned q b₂
   owned_next i b b₂ h e e₂ q eq =
       let sides : ℕ → ℕ = λ c. (occ c (kids (suc l) (take i es)) + occ c (kids (suc l) (drop (suc (suc i)) es))) + p.others c in
       let cut = λ (c : ℕ). ap (λ (z : List (ℕ × Tree ℕ ℕ l)). occ c (kids (suc l) z)) (cut_two es i D h) ∙ kids_append c (suc l) (take i es) (get_or es i D ∷ get_or es (suc i) D ∷ drop (suc (suc i)) es) in
       let h₁ : ℕ → ℕ = λ c. one b₂ c + sides c in
       let c₁ : Counted (block_at m) cs (λ c. one b c + h₁ c) = recount (λ c. occ c (kids (suc l) es) + p.others c) (λ c. one b c + h₁ c) (λ c. omega (arith, cut c, ap (λ (z : ℕ). one z c) e, ap (λ (z : ℕ). one z c) e₂)) p.counted in
       let rest : ℕ → ℕ = λ c. occ c (kids_of (block_at m b)) + sides c in
-      subst (λ (z : State). Owned z.0 z.1 b₂) (sym eq) (record {
+      subst (λ (z : State). Owned z b₂) (sym eq) (record {
         others = rest;
         counted = recount (λ c. occ c (kids_of (block_at m b)) + h₁ c) (λ c. one b₂ c + rest c) (λ c. omega arith) (open_counted m cs h₁ b c₁);
         modest = λ c. omega (arith, cut c, kids_le c (suc l) es, p.few, p.modest c, occ_le c (kids_of (block_at m b)), few_kids m b);
         few = omega (arith, p.size, length_opened (kids_of (block_at m b)) b cs);
       })
 
-  same_device : (b : ℕ) (q : State) → q ≡ step (opening b) (state_of m cs) → q.0 ≡ m
+  same_device : (b : ℕ) (q : State) → q ≡ step (opening b) (m, cs) → q.0 ≡ m
   same_device b q e = ap (λ (z : State). z.0) e
 
-  pub still : (b : ℕ) (q : State) → q ≡ step (opening b) (state_of m cs) → (c : ℕ) (o : Option Block) → block_at m c ≡ o → block_at q.0 c ≡ o
+  pub still : (b : ℕ) (q : State) → q ≡ step (opening b) (m, cs) → (c : ℕ) (o : Option Block) → block_at m c ≡ o → block_at q.0 c ≡ o
   still b q e c o t = ap (λ (z : Meaning). block_at z c) (same_device b q e) ∙ t
 
-  pub still_back : (b : ℕ) (q : State) → q ≡ step (opening b) (state_of m cs) → (c : ℕ) (o : Option Block) → block_at q.0 c ≡ o → block_at m c ≡ o
+  pub still_back : (b : ℕ) (q : State) → q ≡ step (opening b) (m, cs) → (c : ℕ) (o : Option Block) → block_at q.0 c ≡ o → block_at m c ≡ o
   still_back b q e c o t = ap (λ (z : Meaning). block_at z c) (sym (same_device b q e)) ∙ t
 
   -- how many entries a child has
@@ -104,8 +104,8 @@ module _ (m : Meaning) (cs : List ℕ) (n : Block) (s l : ℕ) (es : List (ℕ �
       bounds (suc j) h = let q = seg_pair (Cell ℕ ℕ (suc l)) p.lo p.hi es j D p.span h in (q.1.1.1, q.1.1.2)
 
   -- the child is not short
-  pub fill_apart : (i key b : ℕ) → At n s i → get_or n.entries i (0, 0) ≡ (key, b) → (x : Page) → block_at m b ≡ Some (view x) → ((length x.entries.items) ≡ 7 → ⊥) → (q : State) → q ≡ step (opening b) (state_of m cs)
-      → Filling m cs q.0 q.1 s l es (record { at = i; part = x; neighbour = Apart })
+  pub fill_apart : (i key b : ℕ) → At n s i → get_or n.entries i (0, 0) ≡ (key, b) → (x : Page) → block_at m b ≡ Some (view x) → ((length x.entries.items) ≡ 7 → ⊥) → (q : State) → q ≡ step (opening b) (m, cs)
+      → Filling (m, cs) q s l es (record { at = i; part = x; neighbour = Apart })
   unfolding right_apart left_apart
   fill_apart i key b a eb x t long q e =
       let c = covers_of i a in
@@ -113,10 +113,10 @@ module _ (m : Meaning) (cs : List ℕ) (n : Block) (s l : ℕ) (es : List (ℕ �
       let v = child_is i b c.within bi (view x) t in
       let two : 2 ≤ length es = p.enough (omega arith) in
       let ln = child_len i two c.within x v in
-      let to : q ≡ step (opening (get_or es i D).1.0) (state_of m cs) = e ∙ ap (λ (z : ℕ). step (opening z) (state_of m cs)) bi in
+      let to : q ≡ step (opening (get_or es i D).1.0) (m, cs) = e ∙ ap (λ (z : ℕ). step (opening z) (m, cs)) bi in
       go i c v (λ o. long (omega (arith, ln.0, o))) to two
     where
-      go : (i : ℕ) → Covers s es i D → view x ≡ node_of l (get_or es i D).1.1 → (length (get_or es i D).1.1 ≡ 7 → ⊥) → q ≡ step (opening (get_or es i D).1.0) (state_of m cs) → 2 ≤ length es → Filling m cs q.0 q.1 s l es (record { at = i; part = x; neighbour = Apart })
+      go : (i : ℕ) → Covers s es i D → view x ≡ node_of l (get_or es i D).1.1 → (length (get_or es i D).1.1 ≡ 7 → ⊥) → q ≡ step (opening (get_or es i D).1.0) (m, cs) → 2 ≤ length es → Filling (m, cs) q s l es (record { at = i; part = x; neighbour = Apart })
       go zero c v o to two = record { split = right_apart s l es 0 p.lo p.hi p.span two c.low (c.high two) o; at = refl; part = v; side = refl; whole = tt; state = to }
       go (suc i) c v o to two = ⊎_elim
           (λ r. record { split = right_apart s l es (suc i) p.lo p.hi p.span r c.low (c.high r) o; at = refl; part = v; side = refl; whole = tt; state = to })
@@ -144,9 +144,9 @@ module _ (m : Meaning) (cs : List ℕ) (n : Block) (s l : ℕ) (es : List (ℕ �
     pub y_len : ((length y.entries.items) ≡ length ys) × (7 ≤ (length y.entries.items)) × ((length y.entries.items) ≤ 15) × (y.level ≡ l)
     y_len = child_len (suc i) (p.enough (omega arith)) h y y_is
 
-    module _ (q₁ q₂ : State) (e₁ : q₁ ≡ step (opening b) (state_of m cs)) (e₂ : q₂ ≡ step (opening b₂) q₁) where
-      both : q₂ ≡ step (opening (get_or es (suc i) D).1.0) (step (opening (get_or es i D).1.0) (state_of m cs))
-      both = e₂ ∙ ap (step (opening b₂)) e₁ ∙ ap₂ (λ (u v : ℕ). step (opening v) (step (opening u) (state_of m cs))) (number i key b eb) (number (suc i) key₂ b₂ eb₂)
+    module _ (q₁ q₂ : State) (e₁ : q₁ ≡ step (opening b) (m, cs)) (e₂ : q₂ ≡ step (opening b₂) q₁) where
+      both : q₂ ≡ step (opening (get_or es (suc i) D).1.0) (step (opening (get_or es i D).1.0) (m, cs))
+      both = e₂ ∙ ap (step (opening b₂)) e₁ ∙ ap₂ (λ (u v : ℕ). step (opening v) (step (opening u) (m, cs))) (number i key b eb) (number (suc i) key₂ b₂ eb₂)
 
       joined_is : (part : Page) → part.level ≡ l → entries part ≡ entries x ++ entries y → view part ≡ node_of l (xs ++ ys)
       joined_is part lv these = ap₂ page lv (these ∙ ap₂ (λ (u v : Block). u.entries ++ v.entries) x_is y_is ∙ flat_append l xs ys)
@@ -155,7 +155,7 @@ module _ (m : Meaning) (cs : List ℕ) (n : Block) (s l : ℕ) (es : List (ℕ �
         abbrev c : Covers s es i D
         c = covers_of i a
 
-        pub fill_right_merged : (length y.entries.items) ≡ 7 → (part : Page) → part.level ≡ x.level → entries part ≡ entries x ++ entries y → Filling m cs q₂.0 q₂.1 s l es (record { at = i; part = part; neighbour = Merged })
+        pub fill_right_merged : (length y.entries.items) ≡ 7 → (part : Page) → part.level ≡ x.level → entries part ≡ entries x ++ entries y → Filling (m, cs) q₂ s l es (record { at = i; part = part; neighbour = Merged })
         unfolding right_merged
         fill_right_merged o part lv these = record {
           split = right_merged s l es i p.lo p.hi p.span h c.low (c.high h) (omega (arith, x_len.0)) (omega (arith, y_len.0));
@@ -167,7 +167,7 @@ module _ (m : Meaning) (cs : List ℕ) (n : Block) (s l : ℕ) (es : List (ℕ �
         }
 
         pub fill_right_moved : ((length y.entries.items) ≡ 7 → ⊥) → (part rest : Page) → part.level ≡ x.level → entries part ≡ entries x ++ take 1 (entries y) → rest.level ≡ y.level → entries rest ≡ drop 1 (entries y)
-            → Filling m cs q₂.0 q₂.1 s l es (record { at = i; part = part; neighbour = After rest })
+            → Filling (m, cs) q₂ s l es (record { at = i; part = part; neighbour = After rest })
         unfolding right_moved
         fill_right_moved o part rest lv these lr left =
             let ry : entries rest ≡ shallow l (drop 1 ys) = left ∙ ap (λ (u : Block). drop 1 u.entries) y_is ∙ flat_drop l 1 ys in
@@ -184,7 +184,7 @@ module _ (m : Meaning) (cs : List ℕ) (n : Block) (s l : ℕ) (es : List (ℕ �
         abbrev c₂ : Covers s es (suc i) D
         c₂ = covers_of (suc i) a
 
-        pub fill_left_merged : (length x.entries.items) ≡ 7 → (part : Page) → part.level ≡ x.level → entries part ≡ entries x ++ entries y → Filling m cs q₂.0 q₂.1 s l es (record { at = i; part = part; neighbour = Merged })
+        pub fill_left_merged : (length x.entries.items) ≡ 7 → (part : Page) → part.level ≡ x.level → entries part ≡ entries x ++ entries y → Filling (m, cs) q₂ s l es (record { at = i; part = part; neighbour = Merged })
         unfolding left_merged
         fill_left_merged o part lv these = record {
           split = left_merged s l es i p.lo p.hi p.span last c₂.low p.high (omega (arith, y_len.0)) (omega (arith, x_len.0));
@@ -196,7 +196,7 @@ module _ (m : Meaning) (cs : List ℕ) (n : Block) (s l : ℕ) (es : List (ℕ �
         }
 
         pub fill_left_moved : ((length x.entries.items) ≡ 7 → ⊥) → (part rest : Page) → part.level ≡ y.level → entries part ≡ drop (length (entries x) - 1) (entries x) ++ entries y → rest.level ≡ x.level → entries rest ≡ take ((length x.entries.items) - 1) (entries x)
-            → Filling m cs q₂.0 q₂.1 s l es (record { at = i; part = part; neighbour = Before rest })
+            → Filling (m, cs) q₂ s l es (record { at = i; part = part; neighbour = Before rest })
         unfolding left_moved
         fill_left_moved o part rest lv these lr left =
             let k : ℕ = length xs - 1 in
@@ -217,14 +217,14 @@ entry_read p j i d items e h same =
     entries_at p j d h ∙ ap₂ (λ (zs : List Entry) (k : ℕ). pair (get_or zs k d)) (sym same) (sym e)
 
 -- where the level is not named
-module _ (m : Meaning) (cs : List ℕ) (n : Block) (s : ℕ) (a : AbleIndex m cs n s) where
+module _ (m : Meaning) (cs : List ℕ) (n : Block) (s : ℕ) (a : AbleIndex (m, cs) n s) where
   pub two : 2 ≤ length n.entries
   two = omega (arith, a.ready.enough (omega arith), len m cs n s a.l a.es a.ready)
 
-  pub owned_at : (i key b : ℕ) → i < length n.entries → get_or n.entries i (0, 0) ≡ (key, b) → Owned m cs b
+  pub owned_at : (i key b : ℕ) → i < length n.entries → get_or n.entries i (0, 0) ≡ (key, b) → Owned (m, cs) b
   owned_at i key b h e = owned m cs n s a.l a.es a.ready i b (omega (arith, h, len m cs n s a.l a.es a.ready)) (number m cs n s a.l a.es a.ready i key b e)
 
-  pub owned_after : (i key b key₂ b₂ : ℕ) → suc i < length n.entries → get_or n.entries i (0, 0) ≡ (key, b) → get_or n.entries (suc i) (0, 0) ≡ (key₂, b₂) → (q : State) → q ≡ step (opening b) (state_of m cs) → Owned q.0 q.1 b₂
+  pub owned_after : (i key b key₂ b₂ : ℕ) → suc i < length n.entries → get_or n.entries i (0, 0) ≡ (key, b) → get_or n.entries (suc i) (0, 0) ≡ (key₂, b₂) → (q : State) → q ≡ step (opening b) (m, cs) → Owned q b₂
   owned_after i key b key₂ b₂ h e e₂ = owned_next m cs n s a.l a.es a.ready i b b₂ (omega (arith, h, len m cs n s a.l a.es a.ready)) (number m cs n s a.l a.es a.ready i key b e) (number m cs n s a.l a.es a.ready (suc i) key₂ b₂ e₂)
 
   pub seven : (i key b : ℕ) → i < length n.entries → get_or n.entries i (0, 0) ≡ (key, b) → (x : Page) → block_at m b ≡ Some (view x) → 7 ≤ length x.entries.items

@@ -8,7 +8,7 @@ use Rattle.page.specs.Block.{Block, block_at}
 use Rattle.page.specs.View.{view, entries}
 use Rattle.counts.specs.Counts.{occ, Counted}
 use Rattle.counts.proofs.Opens.{recount}
-use Rattle.counts.specs.Moves.{Move, State, state_of, run, writes, Laid}
+use Rattle.counts.specs.Moves.{Move, State, run, writes, Laid}
 use Rattle.edit.specs.Plan.{shallow, page, kids, Stored, placed, links}
 use Rattle.edit.specs.Able.{Open}
 use Rattle.edit.specs.Kept.{Free}
@@ -64,9 +64,9 @@ pub record Linkable (q : State) (hs : List ℕ) : Type 0 where
   pub wide : 32 ≤ q.0.width
   pub left : 2 ≤ q.0.left
   pub two : 2 ≤ length hs
-  pub places : Open q.0 q.1 hs 0
+  pub places : Open q hs 0
 
-module _ (m : Meaning) (cs : List ℕ) (n : Block) (s l : ℕ) (es : List (ℕ × Tree ℕ ℕ l)) (p : Ready m cs n s (suc l) es) (q₁ : State) (f : Filled) (F : Filling m cs q₁.0 q₁.1 s l es f) where
+module _ (m : Meaning) (cs : List ℕ) (n : Block) (s l : ℕ) (es : List (ℕ × Tree ℕ ℕ l)) (p : Ready (m, cs) n s (suc l) es) (q₁ : State) (f : Filled) (F : Filling (m, cs) q₁ s l es f) where
   abbrev S : Split s l es
   S = F.split
 
@@ -81,14 +81,14 @@ module _ (m : Meaning) (cs : List ℕ) (n : Block) (s l : ℕ) (es : List (ℕ �
   abbrev sides : ℕ → ℕ
   sides b = (occ b (kids (suc l) (take S.at es)) + occ b (kids (suc l) (drop (past S.at S.side) es))) + p.others b
 
-  all_opened : (gs : List ℕ) (k : ℕ) → Free m cs gs k → Opened gs k l S.mid sides (state_of m cs) (run (opens S.mid) (state_of m cs))
-  all_opened gs k = open_all gs k l S.mid sides (state_of m cs) mid_stored (recount (λ b. occ b (kids (suc l) es) + p.others b) (λ b. occ b (kids (suc l) S.mid) + sides b) (λ b. omega (arith, around b)) p.counted)
+  all_opened : (gs : List ℕ) (k : ℕ) → Free (m, cs) gs k → Opened gs k l S.mid sides (m, cs) (run (opens S.mid) (m, cs))
+  all_opened gs k = open_all gs k l S.mid sides (m, cs) mid_stored (recount (λ b. occ b (kids (suc l) es) + p.others b) (λ b. occ b (kids (suc l) S.mid) + sides b) (λ b. omega (arith, around b)) p.counted)
 
-  pub part_ready : Ready q₁.0 q₁.1 (view f.part) s l S.work
+  pub part_ready : Ready q₁ (view f.part) s l S.work
   part_ready =
-      let none : Free m cs [] 0 = record { count = λ j h. absurd (not-suc-le-zero h); on = λ j h. absurd (not-suc-le-zero h); apart = λ i j h k e. absurd (not-suc-le-zero k) } in
+      let none : Free (m, cs) [] 0 = record { count = λ j h. absurd (not-suc-le-zero h); on = λ j h. absurd (not-suc-le-zero h); apart = λ i j h k e. absurd (not-suc-le-zero k) } in
       let o = all_opened [] 0 none in
-      let z = same_by (opens S.mid) (state_of m cs) q₁ F.state in
+      let z = same_by (opens S.mid) (m, cs) q₁ F.state in
       let dev : q₁.0 ≡ m = ap (λ (x : State). x.0) F.state ∙ o.device in
       let others : ℕ → ℕ = λ b. occ b (kids l (rest_of S.side)) + sides b in
       let cc₁ : Counted (block_at m) q₁.1 (λ b. occ b (kids l S.work) + others b) =
@@ -115,14 +115,14 @@ module _ (m : Meaning) (cs : List ℕ) (n : Block) (s l : ℕ) (es : List (ℕ �
   part_level = ap (λ (x : Block). x.level) F.part
 
   -- the places of the grant are free still
-  still_free : (gs : List ℕ) (k : ℕ) → Free m cs gs k → Free q₁.0 q₁.1 gs k
+  still_free : (gs : List ℕ) (k : ℕ) → Free (m, cs) gs k → Free q₁ gs k
   still_free gs k free =
       let o = all_opened gs k free in
-      subst (λ (x : State). Free x.0 x.1 gs k) (sym F.state) (subst (λ (x : Meaning). Free x (run (opens S.mid) (state_of m cs)).1 gs k) (sym o.device) o.free)
+      subst (λ (x : State). Free x gs k) (sym F.state) (subst (λ (x : Meaning). Free (x, (run (opens S.mid) (m, cs)).1) gs k) (sym o.device) o.free)
 
-  pub part_room : (gs : List ℕ) → Room m cs gs (suc l) → Room q₁.0 q₁.1 gs f.part.level
+  pub part_room : (gs : List ℕ) → Room (m, cs) gs (suc l) → Room q₁ gs f.part.level
   part_room gs r =
-      let z = same_by (opens S.mid) (state_of m cs) q₁ F.state in
+      let z = same_by (opens S.mid) (m, cs) q₁ F.state in
       let free = still_free gs (2 * suc l) r.free in
       record {
         left = omega (arith, r.left, z.left, opens_writes S.mid, part_level);
@@ -133,7 +133,7 @@ module _ (m : Meaning) (cs : List ℕ) (n : Block) (s l : ℕ) (es : List (ℕ �
         };
       }
 
-  module _ (gs : List ℕ) (q₂ : State) (made : Block) (M : Made q₁.0 q₁.1 q₂.0 q₂.1 gs s l S.work made) where
+  module _ (gs : List ℕ) (q₂ : State) (made : Block) (M : Made q₁ q₂ gs s l S.work made) where
     pub made_level : made.level ≡ l
     made_level = ap (λ (x : Block). x.level) M.is
 
@@ -145,9 +145,9 @@ module _ (m : Meaning) (cs : List ℕ) (n : Block) (s l : ℕ) (es : List (ℕ �
       right_is : get_or hs 1 0 ≡ get_or gs (2 * l + 1) 0
       right_is = place gs hs (2 * f.part.level) 1 (2 * l + 1) taken (omega (arith, part_level))
 
-      pub linkable : 2 * suc l ≤ length gs → Room m cs gs (suc l) → Linkable q₂ hs
+      pub linkable : 2 * suc l ≤ length gs → Room (m, cs) gs (suc l) → Linkable q₂ hs
       linkable enough r =
-          let z₁ = same_by (opens S.mid) (state_of m cs) q₁ F.state in
+          let z₁ = same_by (opens S.mid) (m, cs) q₁ F.state in
           let z₂ = same_by (rem_moves gs s l S.work) q₁ q₂ M.state in
           let w = rem_writes gs s l S.lo S.hi S.work S.span S.low S.high (λ h. omega (arith, S.enough)) in
           let free = still_free gs (2 * suc l) r.free in
@@ -197,7 +197,7 @@ module _ (m : Meaning) (cs : List ℕ) (n : Block) (s l : ℕ) (es : List (ℕ �
     pub up : (hs : List ℕ) → hs ≡ drop (2 * f.part.level) gs → (q₃ : State) (r : Block) → r.level ≡ n.level
         → r.entries ≡ take f.at n.entries ++ (map_e (λ c. c.0) (placed (get_or hs 0 0) (get_or hs 1 0) seen) ++ drop (past f.at (side_of f.neighbour)) n.entries)
         → q₃ ≡ run (links made.level (placed (get_or hs 0 0) (get_or hs 1 0) seen)) q₂ → Laid q₂.0.width (links made.level (placed (get_or hs 0 0) (get_or hs 1 0) seen))
-        → Made m cs q₃.0 q₃.1 gs s (suc l) es r
+        → Made (m, cs) q₃ gs s (suc l) es r
     up hs taken q₃ r lv these state laid =
         let H = λ (c : Tree ℕ ℕ l). c.0 in
         let pl : placed (get_or hs 0 0) (get_or hs 1 0) seen ≡ placed X Y (map_e (shallow l) ps) = ap₂ (λ (x y : ℕ). placed x y seen) (left_is hs taken) (right_is hs taken) ∙ ap (placed X Y) flat_is in
@@ -210,7 +210,7 @@ module _ (m : Meaning) (cs : List ℕ) (n : Block) (s l : ℕ) (es : List (ℕ �
         let dr : drop (past f.at (side_of f.neighbour)) n.entries ≡ map_e H (drop (past S.at S.side) es) = ap₂ (λ (i : ℕ) (x : Block). drop i x.entries) pst p.is ∙ sym (map_drop H (past S.at S.side) es) in
         let sh = S.shrinks gs (rem_n gs s l) in
         let mv = S.moves gs (rem_n gs s l) (rem_moves gs s l) in
-        let w₁ : q₁.0.width ≡ m.width = (same_by (opens S.mid) (state_of m cs) q₁ F.state).width in
+        let w₁ : q₁.0.width ≡ m.width = (same_by (opens S.mid) (m, cs) q₁ F.state).width in
         let w₂ : q₂.0.width ≡ q₁.0.width = (same_by ms q₁ q₂ M.state).width in
         record {
           is = ap₂ page (lv ∙ ap (λ (x : Block). x.level) p.is)
@@ -219,28 +219,28 @@ module _ (m : Meaning) (cs : List ℕ) (n : Block) (s l : ℕ) (es : List (ℕ �
               ∙ ap (λ (u : List (ℕ × ℕ)). map_e H (take S.at es) ++ u) (sym (map-append H (placed X Y ps) (drop (past S.at S.side) es)))
               ∙ sym (map-append H (take S.at es) (placed X Y ps ++ drop (past S.at S.side) es)) ∙ ap (map_e H) (sym sh));
           state = state ∙ ap (λ (v : List Move). run v q₂) lk ∙ ap (run ls) (M.state ∙ ap (run ms) F.state)
-              ∙ sym (run_append ms ls (run (opens S.mid) (state_of m cs))) ∙ sym (run_append (opens S.mid) (ms ++ ls) (state_of m cs)) ∙ ap (λ (v : List Move). run v (state_of m cs)) (sym mv);
+              ∙ sym (run_append ms ls (run (opens S.mid) (m, cs))) ∙ sym (run_append (opens S.mid) (ms ++ ls) (m, cs)) ∙ ap (λ (v : List Move). run v (m, cs)) (sym mv);
           laid = subst (Laid m.width) (sym mv) (laid_append m.width (opens S.mid) (ms ++ ls) (opens_laid m.width S.mid)
               (laid_append m.width ms ls (subst (λ (w : ℕ). Laid w ms) w₁ M.laid) (subst (λ (w : ℕ). Laid w ls) (w₂ ∙ w₁) (subst (Laid q₂.0.width) lk laid))));
         }
 
 -- where the level is not known to be above 0
 module _ (m : Meaning) (cs gs : List ℕ) (n : Block) (s : ℕ) where
-  pub leaf_made : (r : Block) → n.level ≡ 0 → r.level ≡ n.level → r.entries ≡ del s n.entries → (l : ℕ) (es : List (ℕ × Pay ℕ ℕ l)) → Ready m cs n s l es → Made m cs m cs gs s l es r
+  pub leaf_made : (r : Block) → n.level ≡ 0 → r.level ≡ n.level → r.entries ≡ del s n.entries → (l : ℕ) (es : List (ℕ × Pay ℕ ℕ l)) → Ready (m, cs) n s l es → Made (m, cs) (m, cs) gs s l es r
   leaf_made r z v e zero es p = record { is = ap₂ page (v ∙ z) (e ∙ ap (λ (x : Block). del s x.entries) p.is); state = refl; laid = tt }
   leaf_made r z v e (suc l) es p = absurd (omega (arith, z, ap (λ (x : Block). x.level) p.is))
 
-  pub index_able : (n.level ≡ 0 → ⊥) → Able m cs n s → AbleIndex m cs n s
+  pub index_able : (n.level ≡ 0 → ⊥) → Able (m, cs) n s → AbleIndex (m, cs) n s
   index_able above a = go a.l a.es a.ready
     where
-      go : (l : ℕ) (es : List (ℕ × Pay ℕ ℕ l)) → Ready m cs n s l es → AbleIndex m cs n s
+      go : (l : ℕ) (es : List (ℕ × Pay ℕ ℕ l)) → Ready (m, cs) n s l es → AbleIndex (m, cs) n s
       go zero es p = absurd (above (ap (λ (x : Block). x.level) p.is))
       go (suc l) es p = record { l = l; es = es; ready = p }
 
-  pub level_is : (l : ℕ) (es : List (ℕ × Pay ℕ ℕ l)) → Ready m cs n s l es → n.level ≡ l
+  pub level_is : (l : ℕ) (es : List (ℕ × Pay ℕ ℕ l)) → Ready (m, cs) n s l es → n.level ≡ l
   level_is l es p = ap (λ (x : Block). x.level) p.is
 
-  pub index_made : (n.level ≡ 0 → ⊥) → (q : State) (r : Block) → ((l : ℕ) (es : List (ℕ × Tree ℕ ℕ l)) → Ready m cs n s (suc l) es → Made m cs q.0 q.1 gs s (suc l) es r)
-      → (l : ℕ) (es : List (ℕ × Pay ℕ ℕ l)) → Ready m cs n s l es → Made m cs q.0 q.1 gs s l es r
+  pub index_made : (n.level ≡ 0 → ⊥) → (q : State) (r : Block) → ((l : ℕ) (es : List (ℕ × Tree ℕ ℕ l)) → Ready (m, cs) n s (suc l) es → Made (m, cs) q gs s (suc l) es r)
+      → (l : ℕ) (es : List (ℕ × Pay ℕ ℕ l)) → Ready (m, cs) n s l es → Made (m, cs) q gs s l es r
   index_made above q r h zero es p = absurd (above (ap (λ (x : Block). x.level) p.is))
   index_made above q r h (suc l) es p = h l es p

@@ -1,5 +1,5 @@
 -- The page that link_parts answers, case by case; and what it writes has words.
-use Rattle.std.proofs.Common.{◌≡◌, ℕ, suc, ◌+◌, ◌<◌, ◌≤◌, List, ◌∷◌, ◌++◌, get_or, take, drop, sym, ◌∙◌, subst, ap₂, arith}
+use Rattle.std.proofs.Common.{◌≡◌, ℕ, ◌<◌, ◌≤◌, ◌⊎◌, List, ◌∷◌, ◌++◌, get_or, take, drop, sym, ◌∙◌, subst, ap₂, ⊎_elim, arith}
 use Rattle.tree.specs.Node.{first, map_e}
 use Rattle.page.specs.Block.{Layout}
 use Rattle.page.specs.View.{view, entries}
@@ -23,25 +23,24 @@ at_within f n = go f.neighbour
     go (After p) h = omega (arith, h)
     go (Before p) h = omega (arith, h)
 
-module _ (p : Page) (f : Filled) (made : Page) (gs : List ℕ) (r : List (ℕ × ℕ)) (left : ℕ × ℕ) (key : left.0 ≡ (get_or (entries p) f.at (0, 0)).0) (number : left.1 ≡ get_or gs 0 0) where
+module _ (p : Page) (f : Filled) (made : Page) (gs : List ℕ) (r : List (ℕ × ℕ)) (end : ℕ) (left : ℕ × ℕ) (past-is : end ≡ end_of f) (key : left.0 ≡ (get_or (entries p) f.at (0, 0)).0) (number : left.1 ≡ get_or gs 0 0) where
   abbrev With : Neighbour → Type 0
   With nb =
-      r ≡ take f.at (entries p) ++ (map_e (λ c. c.0) (placed (get_or gs 0 0) (get_or gs 1 0) (parts (get_or (entries p) f.at (0, 0)).0 (side_of nb) (entries f.part) (entries made))) ++ drop (past f.at (side_of nb)) (entries p))
+      r ≡ take f.at (entries p) ++ (map_e (λ c. c.0) (placed (get_or gs 0 0) (get_or gs 1 0) (parts (get_or (entries p) f.at (0, 0)).0 (side_of nb) (entries f.part) (entries made))) ++ drop (end_of f) (entries p))
 
   left_is : left ≡ ((get_or (entries p) f.at (0, 0)).0, get_or gs 0 0)
   left_is = ap₂ (λ (a b : ℕ). (a, b)) key number
 
-  next : f.at + 2 ≡ suc (suc f.at)
-  next = omega arith
+  pub these_one : (f.neighbour ≡ Apart) ⊎ (f.neighbour ≡ Merged) → r ≡ take f.at (entries p) ++ (left ∷ drop end (entries p)) → With f.neighbour
+  these_one o t =
+      let w : With Apart = t ∙ ap₂ (λ (x : ℕ × ℕ) (k : ℕ). take f.at (entries p) ++ (x ∷ drop k (entries p))) left_is past-is in
+      ⊎_elim (λ e. subst With (sym e) w) (λ e. subst With (sym e) w) o
 
-  pub these_merged : f.neighbour ≡ Merged → r ≡ take f.at (entries p) ++ (left ∷ drop (f.at + 2) (entries p)) → With f.neighbour
-  these_merged e t = subst With (sym e) (t ∙ ap₂ (λ (x : ℕ × ℕ) (k : ℕ). take f.at (entries p) ++ (x ∷ drop k (entries p))) left_is next)
-
-  module _ (right : ℕ × ℕ) (number₂ : right.1 ≡ get_or gs 1 0) (t : r ≡ take f.at (entries p) ++ (left ∷ right ∷ drop (f.at + 2) (entries p))) where
-    both : (k : ℕ) → right.0 ≡ k → r ≡ take f.at (entries p) ++ (((get_or (entries p) f.at (0, 0)).0, get_or gs 0 0) ∷ (k, get_or gs 1 0) ∷ drop (suc (suc f.at)) (entries p))
+  module _ (right : ℕ × ℕ) (number₂ : right.1 ≡ get_or gs 1 0) (t : r ≡ take f.at (entries p) ++ (left ∷ right ∷ drop end (entries p))) where
+    both : (k : ℕ) → right.0 ≡ k → r ≡ take f.at (entries p) ++ (((get_or (entries p) f.at (0, 0)).0, get_or gs 0 0) ∷ (k, get_or gs 1 0) ∷ drop (end_of f) (entries p))
     both k e =
-        t ∙ ap₂ (λ (x : ℕ × ℕ) (i : ℕ). take f.at (entries p) ++ (x ∷ right ∷ drop i (entries p))) left_is next
-        ∙ ap₂ (λ (a b : ℕ). take f.at (entries p) ++ (((get_or (entries p) f.at (0, 0)).0, get_or gs 0 0) ∷ (a, b) ∷ drop (suc (suc f.at)) (entries p))) e number₂
+        t ∙ ap₂ (λ (x : ℕ × ℕ) (i : ℕ). take f.at (entries p) ++ (x ∷ right ∷ drop i (entries p))) left_is past-is
+        ∙ ap₂ (λ (a b : ℕ). take f.at (entries p) ++ (((get_or (entries p) f.at (0, 0)).0, get_or gs 0 0) ∷ (a, b) ∷ drop (end_of f) (entries p))) e number₂
 
     pub these_after : (rest : Page) → f.neighbour ≡ After rest → right.0 ≡ first (entries rest) → With f.neighbour
     these_after rest e s = subst With (sym e) (both (first (entries rest)) s)

@@ -10,7 +10,7 @@ use Rattle.tree.proofs.Puts.{five_high}
 use Rattle.page.specs.Block.{Block, block_at, kids_of, Layout}
 use Rattle.page.specs.Slot.{Root}
 use Rattle.counts.specs.Counts.{one, occ, Counted, free_blocks}
-use Rattle.counts.specs.Moves.{Move, opening, linking, State, state_of, step, run, writes}
+use Rattle.counts.specs.Moves.{Move, opening, linking, State, step, run, writes}
 use Rattle.counts.proofs.Opens.{open_counted, recount}
 use Rattle.counts.proofs.Parents.{one_same}
 use Rattle.counts.proofs.Steps.{within}
@@ -121,7 +121,7 @@ module _ (m : Meaning) (cs gs : List ℕ) (root : Root) (s : ℕ) (r : model.Tre
   x = get_or gs (2 * l) 0
 
   abbrev q₀ : State
-  q₀ = state_of m cs
+  q₀ = (m, cs)
 
   abbrev ms : List Move
   ms = rem_moves gs s l es
@@ -164,8 +164,8 @@ module _ (m : Meaning) (cs gs : List ℕ) (root : Root) (s : ℕ) (r : model.Tre
     stored₁ : Every (Stored (block_at q₁.0) l) es
     stored₁ = subst (λ (z : State). Every (Stored (block_at z.0) l) es) (sym e₁) p.stored.1
 
-    free₁ : Free q₁.0 q₁.1 gs N
-    free₁ = subst (λ (z : State). Free z.0 z.1 gs N) (sym e₁) (free_open gs N q₀ h root.1 held p.free)
+    free₁ : Free q₁ gs N
+    free₁ = subst (λ (z : State). Free z gs N) (sym e₁) (free_open gs N q₀ h root.1 held p.free)
 
     same₁ : Same q₀ q₁ 0
     same₁ = same_by (opening root.1 ∷ []) q₀ q₁ e₁
@@ -177,7 +177,7 @@ module _ (m : Meaning) (cs gs : List ℕ) (root : Root) (s : ℕ) (r : model.Tre
       pub top_level : n.level ≡ l
       top_level = ap (λ (z : Block). z.level) top_is
 
-      pub top_ready : Ready q₁.0 q₁.1 n s l es
+      pub top_ready : Ready q₁ n s l es
       top_ready = record {
         is = top_is;
         stored = stored₁;
@@ -195,10 +195,10 @@ module _ (m : Meaning) (cs gs : List ℕ) (root : Root) (s : ℕ) (r : model.Tre
         wide = (omega (arith, p.wide.0, same₁.width), omega (arith, p.wide.1, same₁.width));
       }
 
-      pub top_able : Able q₁.0 q₁.1 n s
+      pub top_able : Able q₁ n s
       top_able = record { l = l; es = es; ready = top_ready }
 
-      pub top_room : Room q₁.0 q₁.1 gs n.level
+      pub top_room : Room q₁ gs n.level
       top_room = record {
         left = omega (arith, p.left, same₁.left, top_level);
         free = record {
@@ -208,7 +208,7 @@ module _ (m : Meaning) (cs gs : List ℕ) (root : Root) (s : ℕ) (r : model.Tre
         };
       }
 
-    module _ (q₂ : State) (made : Block) (M : Made q₁.0 q₁.1 q₂.0 q₂.1 gs s l es made) where
+    module _ (q₂ : State) (made : Block) (M : Made q₁ q₂ gs s l es made) where
       pub made_level : made.level ≡ l
       made_level = ap (λ (z : Block). z.level) M.is
 
@@ -244,7 +244,7 @@ module _ (m : Meaning) (cs gs : List ℕ) (root : Root) (s : ℕ) (r : model.Tre
         ct : Counted (block_at z₂.0) z₂.1 (λ b. one v.1.0 b + h b)
         ct = recount (λ b. occ b (kids l us) + h b) (λ b. one v.1.0 b + h b) (λ b. omega (arith, w.refers b)) stands.counted
 
-        pub way_edited : Edited (takes s) r m cs q₂.0 q₂.1
+        pub way_edited : Edited (takes s) r (m, cs) q₂
         way_edited =
             edited_by m cs (takes s) r h p.counted v (opening root.1 ∷ ms) (sym u_is) each
             (λ b. sym (aimed b) ∙ sym (way_places pick b l us' (omega (arith, high, made_level)) (omega (arith, n, made_length, same_length))))
@@ -280,7 +280,7 @@ module _ (m : Meaning) (cs gs : List ℕ) (root : Root) (s : ℕ) (r : model.Tre
         pub kept_root : (root.0, y) ≡ root_of u
         kept_root = ap (λ (i : ℕ). (i, y)) (sym p.height) ∙ ap (λ (t : model.Tree). root_of t) kept
 
-        pub kept_edited : (q₃ : State) → q₃ ≡ step (linking y made) q₂ → Layout q₂.0.width made → Edited (takes s) r m cs q₃.0 q₃.1
+        pub kept_edited : (q₃ : State) → q₃ ≡ step (linking y made) q₂ → Layout q₂.0.width made → Edited (takes s) r (m, cs) q₃
         kept_edited q₃ e₃ laid =
             let top : List Move = linking y (node_of l us) ∷ [] in
             let vs : List Move = opening root.1 ∷ (ms ++ top) in
@@ -302,8 +302,8 @@ module _ (m : Meaning) (cs gs : List ℕ) (root : Root) (s : ℕ) (r : model.Tre
             q₃ (to ∙ sym all)
 
 -- the new tree is sound
-pub good_remove : (m : Meaning) (cs gs : List ℕ) (root : Root) (s : ℕ) → Editable m cs root → Granted (2 * root.0 + 1) m cs gs → s < 10000 → (m' : Meaning) (cs' : List ℕ) (r : Root)
-    → r ≡ root_of (changed_on ℕ (takes s) (free_blocks cs) (tree_at (current_at m) root)) → Edited (takes s) (tree_at (current_at m) root) m cs m' cs' → Good (blocks_of m') (current_at m') r
+pub good_remove : (m : Meaning) (cs gs : List ℕ) (root : Root) (s : ℕ) → Editable (m, cs) root → Granted (2 * root.0 + 1) (m, cs) gs → s < 10000 → (m' : Meaning) (cs' : List ℕ) (r : Root)
+    → r ≡ root_of (changed_on ℕ (takes s) (free_blocks cs) (tree_at (current_at m) root)) → Edited (takes s) (tree_at (current_at m) root) (m, cs) (m', cs') → Good (blocks_of m') (current_at m') r
 good_remove m cs gs root s E G sp m' cs' r e D =
     let t : model.Tree = tree_at (current_at m) root in
     let hi = (rooted m cs gs root s E G sp).height in

@@ -1,6 +1,5 @@
 -- What a removal needs of a page in memory, and what it makes.
 use Rattle.std.specs.Prelude.{◌≡◌, ℕ, suc, ◌+◌, ◌*◌, ◌<◌, ◌≤◌, List, length, slice_index_or}
-use Rattle.device.specs.Meaning.{Meaning}
 use Rattle.tree.specs.Node.{Every}
 use Rattle.tree.specs.Tree.{Pay, Tree, Span}
 use Rattle.page.specs.Block.{Block, block_at}
@@ -8,7 +7,7 @@ use Rattle.page.specs.Io.{Wide}
 use Rattle.page.specs.View.{view, entries}
 use Rattle.page.specs.declared.page.Page.{Page}
 use Rattle.counts.specs.Counts.{occ, Counted}
-use Rattle.counts.specs.Moves.{run, Laid}
+use Rattle.counts.specs.Moves.{State, run, Laid}
 use Rattle.edit.specs.Plan.{shallow, node_of, kids, Stored}
 use Rattle.edit.specs.Kept.{Free}
 use Rattle.edit.specs.Fill.{opens}
@@ -19,9 +18,9 @@ use Rattle.removal.specs.declared.filled.Filled.{Filled}
 use Rattle.removal.specs.Split.{Side, apart, merged, after, before, past, parts, over_side, Split}
 
 -- The page n holds the entries es of level l, which cover speed s; their children are in the store and referred to.
-pub record Ready (m : Meaning) (cs : List ℕ) (n : Block) (s l : ℕ) (es : List (ℕ × Pay ℕ ℕ l)) : Type 0 where
+pub record Ready (q : State) (n : Block) (s l : ℕ) (es : List (ℕ × Pay ℕ ℕ l)) : Type 0 where
   pub is : n ≡ node_of l es
-  pub stored : Every (Stored (block_at m) l) es
+  pub stored : Every (Stored (block_at q.0) l) es
   pub lo : ℕ
   pub hi : ℕ
   pub span : Span ℕ ℕ l lo hi es
@@ -30,26 +29,26 @@ pub record Ready (m : Meaning) (cs : List ℕ) (n : Block) (s l : ℕ) (es : Lis
   pub few : length es ≤ 15
   pub enough : 0 < l → 2 ≤ length es
   pub others : ℕ → ℕ
-  pub counted : Counted (block_at m) cs (λ b. occ b (kids l es) + others b)
+  pub counted : Counted (block_at q.0) q.1 (λ b. occ b (kids l es) + others b)
   pub modest : (b : ℕ) → others b + 32 * l ≤ 2000
-  pub size : length cs ≤ 4096
-  pub wide : Wide m
+  pub size : length q.1 ≤ 4096
+  pub wide : Wide q.0
 
-pub record Able (m : Meaning) (cs : List ℕ) (n : Block) (s : ℕ) : Type 0 where
+pub record Able (q : State) (n : Block) (s : ℕ) : Type 0 where
   pub l : ℕ
   pub es : List (ℕ × Pay ℕ ℕ l)
-  pub ready : Ready m cs n s l es
+  pub ready : Ready q n s l es
 
 -- the same of an index block
-pub record AbleIndex (m : Meaning) (cs : List ℕ) (n : Block) (s : ℕ) : Type 0 where
+pub record AbleIndex (q : State) (n : Block) (s : ℕ) : Type 0 where
   pub l : ℕ
   pub es : List (ℕ × Tree ℕ ℕ l)
-  pub ready : Ready m cs n s (suc l) es
+  pub ready : Ready q n s (suc l) es
 
 -- the first 2l places of the grant gs are free, and so many writes are left
-pub record Room (m : Meaning) (cs gs : List ℕ) (l : ℕ) : Type 0 where
-  pub left : 2 * l ≤ m.left
-  pub free : Free m cs gs (2 * l)
+pub record Room (q : State) (gs : List ℕ) (l : ℕ) : Type 0 where
+  pub left : 2 * l ≤ q.0.left
+  pub free : Free q gs (2 * l)
 
 -- i is the place of the entry that covers s
 pub record At (n : Block) (s i : ℕ) : Type 0 where
@@ -80,16 +79,16 @@ abbrev pub end_of : Filled → ℕ
 end_of f = past f.at (side_of f.neighbour)
 
 -- f is the split of the children es, which are opened.
-pub record Filling (m : Meaning) (cs : List ℕ) (m' : Meaning) (cs' : List ℕ) (s l : ℕ) (es : List (ℕ × Tree ℕ ℕ l)) (f : Filled) : Type 0 where
+pub record Filling (q q' : State) (s l : ℕ) (es : List (ℕ × Tree ℕ ℕ l)) (f : Filled) : Type 0 where
   pub split : Split s l es
   pub at : f.at ≡ split.at
   pub part : view f.part ≡ node_of l split.work
   pub side : side_of f.neighbour ≡ over_side (shallow l) split.side
   pub whole : Whole l f.part f.neighbour
-  pub state : (m', cs') ≡ run (opens split.mid) (m, cs)
+  pub state : q' ≡ run (opens split.mid) q
 
 -- r is the page with speed s removed below it: its altered children are written and linked.
-pub record Made (m : Meaning) (cs : List ℕ) (m' : Meaning) (cs' gs : List ℕ) (s l : ℕ) (es : List (ℕ × Pay ℕ ℕ l)) (r : Block) : Type 0 where
+pub record Made (q q' : State) (gs : List ℕ) (s l : ℕ) (es : List (ℕ × Pay ℕ ℕ l)) (r : Block) : Type 0 where
   pub is : r ≡ node_of l (rem_n gs s l es)
-  pub state : (m', cs') ≡ run (rem_moves gs s l es) (m, cs)
-  pub laid : Laid m.width (rem_moves gs s l es)
+  pub state : q' ≡ run (rem_moves gs s l es) q
+  pub laid : Laid q.0.width (rem_moves gs s l es)

@@ -1,4 +1,7 @@
 // A child that can lose an entry, in memory.
+ghost use Rattle.std.specs.Prelude.{◌≡◌, ◌+◌};
+ghost use Rattle.removal.specs.Able.{end_of};
+
 use page::page::Page;
 
 // What became of the child's neighbour.
@@ -20,4 +23,16 @@ pub struct Filled {
     pub at: usize,
     pub part: Page,
     pub neighbour: Neighbour,
+}
+
+impl Filled {
+    // How many children are replaced.
+    pub fn replaced(&self) -> usize
+        ensures { self.now.at + result ≡ end_of self.now }
+    {
+        match self.neighbour {
+            Neighbour::Apart => 1,
+            _ => 2,
+        }
+    }
 }

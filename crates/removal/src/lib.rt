@@ -28,10 +28,10 @@ const FEWEST: usize = 7;
 
 // The child at i opened, with one entry more than it must have: a short one takes from its right neighbour.
 fn fill_right<D: Device>(store: &mut Store<D>, page: &Page, i: usize, speed: u32) -> Filled
-    requires able { AbleIndex store.old.0 store.old.1 (view page.now) speed }
+    requires able { AbleIndex store.old (view page.now) speed }
     requires at { At (view page.now) speed i }
     requires more { suc i < length page.now.entries.items }
-    ensures { (l : ℕ) (es : List (ℕ × Tree ℕ ℕ l)) → Ready store.old.0 store.old.1 (view page.now) speed (suc l) es → Filling store.old.0 store.old.1 store.new.0 store.new.1 speed l es result }
+    ensures { (l : ℕ) (es : List (ℕ × Tree ℕ ℕ l)) → Ready store.old (view page.now) speed (suc l) es → Filling store.old store.new speed l es result }
 {
     let child = store.open(page.entries[i].value);
     if child.entries.len() != FEWEST {
@@ -58,10 +58,10 @@ fn fill_right<D: Device>(store: &mut Store<D>, page: &Page, i: usize, speed: u32
 
 // The same of the last child, which takes from its left neighbour, at i.
 fn fill_left<D: Device>(store: &mut Store<D>, page: &Page, i: usize, speed: u32) -> Filled
-    requires able { AbleIndex store.old.0 store.old.1 (view page.now) speed }
+    requires able { AbleIndex store.old (view page.now) speed }
     requires at { At (view page.now) speed (suc i) }
     requires last { length page.now.entries.items ≡ suc (suc i) }
-    ensures { (l : ℕ) (es : List (ℕ × Tree ℕ ℕ l)) → Ready store.old.0 store.old.1 (view page.now) speed (suc l) es → Filling store.old.0 store.old.1 store.new.0 store.new.1 speed l es result }
+    ensures { (l : ℕ) (es : List (ℕ × Tree ℕ ℕ l)) → Ready store.old (view page.now) speed (suc l) es → Filling store.old store.new speed l es result }
 {
     let last = page.entries[i + 1].value;
     let child = store.read_page(last);
@@ -92,9 +92,9 @@ fn fill_left<D: Device>(store: &mut Store<D>, page: &Page, i: usize, speed: u32)
 
 // The child at i filled.
 fn fill<D: Device>(store: &mut Store<D>, page: &Page, i: usize, speed: u32) -> Filled
-    requires able { AbleIndex store.old.0 store.old.1 (view page.now) speed }
+    requires able { AbleIndex store.old (view page.now) speed }
     requires at { At (view page.now) speed i }
-    ensures { (l : ℕ) (es : List (ℕ × Tree ℕ ℕ l)) → Ready store.old.0 store.old.1 (view page.now) speed (suc l) es → Filling store.old.0 store.old.1 store.new.0 store.new.1 speed l es result }
+    ensures { (l : ℕ) (es : List (ℕ × Tree ℕ ℕ l)) → Ready store.old (view page.now) speed (suc l) es → Filling store.old store.new speed l es result }
 {
     if i + 1 < page.entries.len() {
         fill_right(store, page, i, speed)
@@ -111,7 +111,7 @@ fn link_parts<D: Device>(
     filled: &Filled,
     made: &Page,
 ) -> Page
-    requires places { Open store.old.0 store.old.1 grant.old 0 }
+    requires places { Open store.old grant.old 0 }
     requires two { 2 ≤ length grant.old }
     requires left { 2 ≤ store.old.0.left }
     requires level { made.now.level < 5 }
@@ -123,20 +123,16 @@ fn link_parts<D: Device>(
     ensures grant { grant.new ≡ drop 2 grant.old }
 {
     let at = filled.at;
+    let end = at + filled.replaced();
     let left = Entry {
         speed: page.entries[at].speed,
         value: grant.take(),
     };
     match &filled.neighbour {
-        Neighbour::Apart => {
+        Neighbour::Apart | Neighbour::Merged => {
             grant.give_back();
             store.link(left.value, made);
-            page.spliced(at..at + 1, &[left])
-        },
-        Neighbour::Merged => {
-            grant.give_back();
-            store.link(left.value, made);
-            page.spliced(at..at + 2, &[left])
+            page.spliced(at..end, &[left])
         },
         Neighbour::After(rest) => {
             let right = Entry {
@@ -144,7 +140,7 @@ fn link_parts<D: Device>(
                 value: grant.take(),
             };
             link_two(store, left.value, right.value, made, rest);
-            page.spliced(at..at + 2, &[left, right])
+            page.spliced(at..end, &[left, right])
         },
         Neighbour::Before(rest) => {
             let right = Entry {
@@ -152,17 +148,17 @@ fn link_parts<D: Device>(
                 value: grant.take(),
             };
             link_two(store, left.value, right.value, rest, made);
-            page.spliced(at..at + 2, &[left, right])
+            page.spliced(at..end, &[left, right])
         },
     }
 }
 
 // The page with a speed removed below it: its altered children are written and linked, the page itself is not.
 fn remove_in<D: Device>(store: &mut Store<D>, grant: &mut Grant, page: &Page, speed: u32) -> Page
-    requires able { Able store.old.0 store.old.1 (view page.now) speed }
-    requires room { Room store.old.0 store.old.1 grant.old page.now.level }
+    requires able { Able store.old (view page.now) speed }
+    requires room { Room store.old grant.old page.now.level }
     requires enough { 2 * page.now.level ≤ length grant.old }
-    ensures made { (l : ℕ) (es : List (ℕ × Pay ℕ ℕ l)) → Ready store.old.0 store.old.1 (view page.now) speed l es → Made store.old.0 store.old.1 store.new.0 store.new.1 grant.old speed l es (view result) }
+    ensures made { (l : ℕ) (es : List (ℕ × Pay ℕ ℕ l)) → Ready store.old (view page.now) speed l es → Made store.old store.new grant.old speed l es (view result) }
     ensures grant { grant.new ≡ drop (2 * page.now.level) grant.old }
 {
     if page.level == 0 {
@@ -181,11 +177,11 @@ pub fn remove_tree<D: Device>(
     speed: u32,
     mut grant: Grant,
 ) -> Root
-    requires editable { Editable store.old.0 store.old.1 (root.height, root.block) }
-    requires granted { Granted (2 * root.height + 1) store.old.0 store.old.1 grant }
+    requires editable { Editable store.old (root.height, root.block) }
+    requires granted { Granted (2 * root.height + 1) store.old grant }
     requires speed { speed < 10000 }
     ensures root { (result.height, result.block) ≡ root_of (changed_on ℕ (takes speed) (free_blocks store.old.1) (tree_at (current_at store.old.0) (root.height, root.block))) }
-    ensures edited { Edited (takes speed) (tree_at (current_at store.old.0) (root.height, root.block)) store.old.0 store.old.1 store.new.0 store.new.1 }
+    ensures edited { Edited (takes speed) (tree_at (current_at store.old.0) (root.height, root.block)) store.old store.new }
     ensures good { Good (blocks_of store.new.0) (current_at store.new.0) (result.height, result.block) }
 {
     let page = store.open(root.block);

@@ -45,7 +45,7 @@ module _ (t : Tables) (m : Meaning) (cs : List ℕ) (S : Kept t (m, cs)) where
       let z : occ b (root_in (place t.working n)) ≡ 0 = ap (λ o. occ b (root_in o)) none in
       omega (arith, q, z)
 
-  pub counting : Counting m cs
+  pub counting : Counting (m, cs)
   counting = let p = sizes_parts (blocks_of m) m.width S.sized in record { wide = (p.2, p.3); sized = S.long; few = subst (λ k. k ≤ 4096) (sym S.long) p.1 }
 
   pub wide : Wide m
@@ -54,7 +54,7 @@ module _ (t : Tables) (m : Meaning) (cs : List ℕ) (S : Kept t (m, cs)) where
   unused : (b : ℕ) → get_or cs b 0 ≡ 0 → T (elem b (used (shape t m))) → ⊥
   unused b e h = let q : 0 < get_or cs b 0 = (alive_is_reached (block_at m) cs (rootings t) S.counted b).1 ((use_is_reach t m S.standing b).1 h) in omega (arith, q, e)
 
-  free_write : (o : Op) → WritesFree m cs o → FreeWrite t m o
+  free_write : (o : Op) → WritesFree (m, cs) o → FreeWrite t m o
   free_write (write b ws) f = (f.0, f.1, unused b f.2)
   free_write flush f = f
 
@@ -72,7 +72,7 @@ module _ (t : Tables) (m : Meaning) (cs : List ℕ) (S : Kept t (m, cs)) where
     pub split_here : n < 24 → (b : ℕ) → rootings t b ≡ one r.1 b + others t n b
     split_here h b = let q = roots_split t n (subst (λ k. n < k) (sym S.working) h) b in let z : occ b (root_in (place t.working n)) ≡ one r.1 b + 0 = ap (λ o. occ b (root_in o)) at in omega (arith, q, z)
 
-    pub editable : n < 24 → Editable m cs r
+    pub editable : n < 24 → Editable (m, cs) r
     editable h = record {
       counting = counting;
       good = good_here;
@@ -83,7 +83,7 @@ module _ (t : Tables) (m : Meaning) (cs : List ℕ) (S : Kept t (m, cs)) where
 
   -- one place gets a changed tree
   module _ (n : ℕ) (h : n < 24) (d : Change ℕ) (old : (b : ℕ) → rootings t b ≡ given_up d (source (model_of t m) n d) b + others t n b)
-      (m' : Meaning) (cs' : List ℕ) (r : Root) (E : Edited d (source (model_of t m) n d) m cs m' cs')
+      (m' : Meaning) (cs' : List ℕ) (r : Root) (E : Edited d (source (model_of t m) n d) (m, cs) (m', cs'))
       (at : r ≡ root_of (changed_on ℕ d (free_blocks cs) (source (model_of t m) n d))) (G : Good (blocks_of m') (current_at m') r) where
     abbrev u : Tree
     u = changed_on ℕ d (free_blocks cs) (source (model_of t m) n d)
@@ -92,7 +92,7 @@ module _ (t : Tables) (m : Meaning) (cs : List ℕ) (S : Kept t (m, cs)) where
     new_is = ap (λ f. changed_on ℕ d f (source (model_of t m) n d)) free_is
 
     frees : Each (FreeWrite t m) E.os
-    frees = each_map (WritesFree m cs) (FreeWrite t m) free_write E.os E.free
+    frees = each_map (WritesFree (m, cs)) (FreeWrite t m) free_write E.os E.free
 
     pub changed_there : Changed t m n d E.os (mounted (placed t (set t.working n (Some r)))) m'
     changed_there = (
@@ -148,11 +148,11 @@ pub record There (t : Tables) (m : Meaning) (n : ℕ) (d : Change ℕ) (r : Root
 module _ (t : Tables) (m : Meaning) (cs : List ℕ) (S : Kept t (m, cs)) (n : ℕ) (h : n < 24) where
   -- a row is put into a clone's tree
   pub put_there : (r : Root) → place t.working n ≡ Some r → (s a : ℕ) (m' : Meaning) (cs' : List ℕ) (r' : Root)
-      → Edited (puts s a) (tree_at (current_at m) r) m cs m' cs' → r' ≡ root_of (changed_on ℕ (puts s a) (free_blocks cs) (tree_at (current_at m) r)) → Good (blocks_of m') (current_at m') r'
+      → Edited (puts s a) (tree_at (current_at m) r) (m, cs) (m', cs') → r' ≡ root_of (changed_on ℕ (puts s a) (free_blocks cs) (tree_at (current_at m) r)) → Good (blocks_of m') (current_at m') r'
       → There t m n (puts s a) r' m' cs'
   put_there r at s a m' cs' r' E e G =
       let is : tree_at (current_at m) r ≡ source (model_of t m) n (puts s a) = sym (tree_at_lem t m cs S n r at) in
-      let E' : Edited (puts s a) (source (model_of t m) n (puts s a)) m cs m' cs' = subst (λ x. Edited (puts s a) x m cs m' cs') is E in
+      let E' : Edited (puts s a) (source (model_of t m) n (puts s a)) (m, cs) (m', cs') = subst (λ x. Edited (puts s a) x (m, cs) (m', cs')) is E in
       let e' : r' ≡ root_of (changed_on ℕ (puts s a) (free_blocks cs) (source (model_of t m) n (puts s a))) = e ∙ ap (λ x. root_of (changed_on ℕ (puts s a) (free_blocks cs) x)) is in
       let old : (b : ℕ) → rootings t b ≡ given_up (puts s a) (source (model_of t m) n (puts s a)) b + others t n b
       = λ b. split_here t m cs S n r at h b ∙ ap (λ (y : ℕ). one y b + others t n b) (sym (root_block (current_at m) r) ∙ ap (λ (x : Tree). x.1.0) is) in
@@ -165,7 +165,7 @@ module _ (t : Tables) (m : Meaning) (cs : List ℕ) (S : Kept t (m, cs)) (n : �
 
   -- a new tree with no row
   pub create_there : place t.working n ≡ None → (m' : Meaning) (cs' : List ℕ) (r' : Root)
-      → Edited begin bare_tree m cs m' cs' → r' ≡ root_of (changed_on ℕ begin (free_blocks cs) bare_tree) → Good (blocks_of m') (current_at m') r' → There t m n begin r' m' cs'
+      → Edited begin bare_tree (m, cs) (m', cs') → r' ≡ root_of (changed_on ℕ begin (free_blocks cs) bare_tree) → Good (blocks_of m') (current_at m') r' → There t m n begin r' m' cs'
   create_there none m' cs' r' E e G = record {
     kept = sound_there t m cs S n h begin (vacant t m cs S n h none) m' cs' r' E e G;
     os = E.os;
@@ -175,11 +175,11 @@ module _ (t : Tables) (m : Meaning) (cs : List ℕ) (S : Kept t (m, cs)) (n : �
 
   -- a row is taken out of a clone's tree
   pub take_there : (r : Root) → place t.working n ≡ Some r → (s : ℕ) (m' : Meaning) (cs' : List ℕ) (r' : Root)
-      → Edited (takes s) (tree_at (current_at m) r) m cs m' cs' → r' ≡ root_of (changed_on ℕ (takes s) (free_blocks cs) (tree_at (current_at m) r)) → Good (blocks_of m') (current_at m') r'
+      → Edited (takes s) (tree_at (current_at m) r) (m, cs) (m', cs') → r' ≡ root_of (changed_on ℕ (takes s) (free_blocks cs) (tree_at (current_at m) r)) → Good (blocks_of m') (current_at m') r'
       → There t m n (takes s) r' m' cs'
   take_there r at s m' cs' r' E e G =
       let is : tree_at (current_at m) r ≡ source (model_of t m) n (takes s) = sym (tree_at_lem t m cs S n r at) in
-      let E' : Edited (takes s) (source (model_of t m) n (takes s)) m cs m' cs' = subst (λ x. Edited (takes s) x m cs m' cs') is E in
+      let E' : Edited (takes s) (source (model_of t m) n (takes s)) (m, cs) (m', cs') = subst (λ x. Edited (takes s) x (m, cs) (m', cs')) is E in
       let e' : r' ≡ root_of (changed_on ℕ (takes s) (free_blocks cs) (source (model_of t m) n (takes s))) = e ∙ ap (λ x. root_of (changed_on ℕ (takes s) (free_blocks cs) x)) is in
       let old : (b : ℕ) → rootings t b ≡ given_up (takes s) (source (model_of t m) n (takes s)) b + others t n b
       = λ b. split_here t m cs S n r at h b ∙ ap (λ (y : ℕ). one y b + others t n b) (sym (root_block (current_at m) r) ∙ ap (λ (x : Tree). x.1.0) is) in

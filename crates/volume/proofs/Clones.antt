@@ -81,10 +81,10 @@ module _ (t : Tables) (q : State) (K : Kept t q) where
     unfolding block_at tree_at
     level_here = ap level_of good.stored.0
 
-    pub held : Held q.0 q.1 r.1 (top_level r.0)
+    pub held : Held q r.1 (top_level r.0)
     held = record { others = others t n; counted = counted; height = level_here }
 
-    pub dropped : (cs : List ℕ) → length cs ≡ length q.1 → Dropped (r.1 ∷ []) q.0 q.1 cs → Kept (placed t (set t.working n None)) (q.0, cs)
+    pub dropped : (cs : List ℕ) → length cs ≡ length q.1 → Dropped (r.1 ∷ []) q cs → Kept (placed t (set t.working n None)) (q.0, cs)
     dropped cs e d =
         changed n h None cs tt e
         (recount (others t n) (λ b. occ b (root_in None) + others t n b) (λ b. omega arith)

@@ -118,7 +118,7 @@ module _ (t : Tables) (q : State) (K : Kept t q) (n : ℕ) (h : n < 24) where
   more : Counted (block_at q.0) (add_all (root_in o) q.1) (λ b. occ b (root_in o) + rootings t b)
   more = add_all_lem (block_at q.0) (root_in o) q.1 (rootings t) (λ k p. held (block_at q.0) q.1 (rootings t) k K.counted (omega (arith, p, roots_split t n (omega (arith, h, K.working)) k))) K.counted
 
-  pub due : (q' : State) → q'.0 ≡ q.0 → q'.1 ≡ add_all (root_in o) q.1 → (p : Option memory.Root) → root_of p ≡ place t.committed n → IfSome p (λ r. (1 ≤ r.height) × Held q'.0 q'.1 r.block (r.height - 1))
+  pub due : (q' : State) → q'.0 ≡ q.0 → q'.1 ≡ add_all (root_in o) q.1 → (p : Option memory.Root) → root_of p ≡ place t.committed n → IfSome p (λ r. (1 ≤ r.height) × Held q' r.block (r.height - 1))
   due q' e d None k = tt
   due q' e d (Some r) k =
       let x : Root = (r.height, r.block) in
@@ -134,7 +134,7 @@ module _ (t : Tables) (q : State) (K : Kept t q) (n : ℕ) (h : n < 24) where
       )
 
   -- and the root that was committed before one less
-  pub kept_committed : (q' q'' : State) → q'.0 ≡ q.0 → q'.1 ≡ add_all (root_in o) q.1 → q''.0 ≡ q'.0 → Dropped (root_in (place t.committed n)) q'.0 q'.1 q''.1 → length q''.1 ≡ length q'.1
+  pub kept_committed : (q' q'' : State) → q'.0 ≡ q.0 → q'.1 ≡ add_all (root_in o) q.1 → q''.0 ≡ q'.0 → Dropped (root_in (place t.committed n)) q' q''.1 → length q''.1 ≡ length q'.1
       → Kept (with_committed t (set t.committed n o)) q''
   kept_committed q' q'' e d e' drop l =
       let ho : ℕ → ℕ = λ b. occ b (root_in o) + rest b in

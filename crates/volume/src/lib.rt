@@ -59,7 +59,7 @@ fn reserve<D: Device>(store: &Store<D>, clone: u32, n: u32) -> Result<Grant, Ref
     requires few { n ≤ 11 }
     requires sized { sizes (blocks_of store.now.0) store.now.0.width ≡ true }
     ensures { MatchResult result
-        (λ grant. (lacking_in store.now clone n ≡ None) × Granted n store.now.0 store.now.1 grant)
+        (λ grant. (lacking_in store.now clone n ≡ None) × Granted n store.now grant)
         (λ e. lacking_in store.now clone n ≡ Some e) }
 {
     let Some(mut grant) = store.grant(n as usize) else {

@@ -51,9 +51,9 @@ fn hold<D: Device>(store: &mut Store<D>, place: Option<Root>)
 
 // One reference less to the root of a place, if it has one.
 fn give_up<D: Device>(store: &mut Store<D>, place: Option<Root>)
-    requires { IfSome place (λ r. (1 ≤ r.height) × Held store.old.0 store.old.1 r.block (r.height - 1)) }
+    requires { IfSome place (λ r. (1 ≤ r.height) × Held store.old r.block (r.height - 1)) }
     ensures kept { store.new.0 ≡ store.old.0 }
-    ensures dropped { Dropped (root_in (root_of place)) store.old.0 store.old.1 store.new.1 }
+    ensures dropped { Dropped (root_in (root_of place)) store.old store.new.1 }
     ensures sized { length store.new.1 ≡ length store.old.1 }
 {
     if let Some(root) = place {

@@ -4,7 +4,6 @@ use Rattle.page.specs.View.{pair, view, entries}
 use Rattle.page.specs.declared.page.Entry.{Entry}
 use Rattle.page.specs.declared.page.Page.{Page}
 use Rattle.page.proofs.Pages.{entries_length, entries_at}
-use Rattle.counts.specs.Moves.{state_of}
 use Rattle.edit.specs.Plan.{page}
 use Rattle.edit.specs.Able.{Able}
 use Rattle.edit.proofs.Laying.{parts_laid}
@@ -24,7 +23,7 @@ pub covering-i-requires : goal.covering-i-requires
 covering-i-requires g t c = omega (arith, (first_key _ _ _ _ _ c.if-page-eq0.false c.requires.able).0, entries_length c.args.page.now)
 
 -- the entry that `covering` finds is the one that covers the speed
-covers : (m : Meaning) (cs gs : List ℕ) (p : Page) (s i : ℕ) (e : Entry) (xs : List Entry) → (p.level ≡ 0 → ⊥) → Able m cs gs (view p) s → i < length p.entries.items
+covers : (m : Meaning) (cs gs : List ℕ) (p : Page) (s i : ℕ) (e : Entry) (xs : List Entry) → (p.level ≡ 0 → ⊥) → Able (m, cs) gs (view p) s → i < length p.entries.items
     → ((get_or (entries p) 0 (0, 0)).0 ≤ s → (get_or (entries p) i (0, 0)).0 ≤ s) → (suc i < length p.entries.items → s < (get_or (entries p) (suc i) (0, 0)).0)
     → xs ≡ p.entries.items → e ≡ get_or xs i e → Covers (view p) s i (pair e)
 covers m cs gs p s i e xs above able within low high same is = record {
@@ -51,7 +50,7 @@ module _ (g : Over) (t : ℕ) (c : After-put_in-made g t) where
   C : Covers (view c.args.page.now) c.args.row.speed c.covering-i.result (pair c.index-deref-i.result)
   C = covers _ _ _ c.args.page.now _ _ _ _ c.if-page-eq0.false c.requires.able c.covering-i.ensures.within c.covering-i.ensures.low c.covering-i.ensures.high c.deref.ensures.0 c.index-deref-i.is
 
-  P : Parts (state_of c.args.store.now.0 c.args.store.now.1) c.open-child.new.self c.index-deref-i.result.value c.args.row.speed (view c.open-child.result) (view c.part_for-part.result)
+  P : Parts c.args.store.now c.open-child.new.self c.index-deref-i.result.value c.args.row.speed (view c.open-child.result) (view c.part_for-part.result)
   P = record { there = c.open-child.ensures.page; level = c.part_for-part.ensures.level; these = c.part_for-part.ensures.these; state = c.open-child.ensures.state }
 
   link : Linkable c.put_in-made.new.store c.put_in-made.new.grant (view c.args.page.now) (view c.open-child.result) (view c.put_in-made.result)

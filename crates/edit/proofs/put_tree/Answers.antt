@@ -25,7 +25,7 @@ module _ (g : Over) (c : After-put_in-made g) where
   p : Rooted c.args.store.now.0 c.args.store.now.1 c.args.grant (c.args.root.height, c.args.root.block) c.args.row.speed t c.requires.editable.others
   p = rooted _ _ _ _ _ c.requires.editable c.requires.granted c.requires.row.0
 
-  M : Made c.args.store.now.0 c.args.store.now.1 c.put_in-made.new.store.0 c.put_in-made.new.store.1 c.args.grant c.args.row.speed c.args.row.value (suc t.0) ((0, t.1) ∷ []) (view c.put_in-made.result)
+  M : Made c.args.store.now c.put_in-made.new.store c.args.grant c.args.row.speed c.args.row.value (suc t.0) ((0, t.1) ∷ []) (view c.put_in-made.result)
   M = c.put_in-made.ensures.made _ _ (top_ready _ _ _ _ _ _ _ p (view c.new-above.result) c.new-above.ensures.level c.new-above.ensures.these)
 
   -- all blocks of the grant but one are taken

@@ -16,4 +16,4 @@ walk_clones-requires-clause-rooted g c =
     (used_rooted c.args.store.now.0 (slot_of c.in_ok-slot.slot) (slot_used c.args.store.now.0 c.read_table.result c.in_ok-slot.slot _ c.read_table.ensures.answer c.in_ok-slot.ensures.value))
 
 pub walk_clones-requires-clause-none : goal.walk_clones-requires-clause-none
-walk_clones-requires-clause-none g c = subst (λ (q : State). Counting q.0 q.1 []) (sym c.read_table.ensures.kept) (counting_none c.args.store.now.0 c.args.store.now.1 (sizes_parts (blocks_of c.args.store.now.0) c.args.store.now.0.width c.requires.fit).1 c.requires.none)
+walk_clones-requires-clause-none g c = subst (λ (q : State). Counting q []) (sym c.read_table.ensures.kept) (counting_none c.args.store.now.0 c.args.store.now.1 (sizes_parts (blocks_of c.args.store.now.0) c.args.store.now.0.width c.requires.fit).1 c.requires.none)

@@ -27,17 +27,17 @@ module _ (g : Over) (t : ℕ) (c : After-fill-filled g t) where
   above : c.args.page.now.level ≡ 0 → ⊥
   above = c.if-page-eq0.false
 
-  A : AbleIndex c.args.store.now.0 c.args.store.now.1 (view c.args.page.now) c.args.speed
+  A : AbleIndex c.args.store.now (view c.args.page.now) c.args.speed
   A = index_able _ _ c.args.grant.now _ _ above c.requires.able
 
-  F : Filling c.args.store.now.0 c.args.store.now.1 c.fill-filled.new.store.0 c.fill-filled.new.store.1 c.args.speed A.l A.es c.fill-filled.result
+  F : Filling c.args.store.now c.fill-filled.new.store c.args.speed A.l A.es c.fill-filled.result
   F = c.fill-filled.ensures A.l A.es A.ready
 
   level : c.args.page.now.level ≡ suc A.l
   level = level_is _ _ c.args.grant.now _ _ _ _ A.ready
 
-  room : Room c.args.store.now.0 c.args.store.now.1 c.args.grant.now (suc A.l)
-  room = subst (Room c.args.store.now.0 c.args.store.now.1 c.args.grant.now) level c.requires.room
+  room : Room c.args.store.now c.args.grant.now (suc A.l)
+  room = subst (Room c.args.store.now c.args.grant.now) level c.requires.room
 
   part : c.fill-filled.result.part.level ≡ A.l
   part = part_level _ _ _ _ _ _ A.ready _ _ F
@@ -57,10 +57,10 @@ remove_in-made-requires g t c κs inside =
       ),
     )
 
-module _ (g : Over) (t : ℕ) (c : After-remove_in-made g t) (a : AbleIndex c.args.store.now.0 c.args.store.now.1 (view c.args.page.now) c.args.speed)
-    (f : Filling c.args.store.now.0 c.args.store.now.1 c.fill-filled.new.store.0 c.fill-filled.new.store.1 c.args.speed a.l a.es c.fill-filled.result)
-    (room : Room c.args.store.now.0 c.args.store.now.1 c.args.grant.now (suc a.l)) (level : c.args.page.now.level ≡ suc a.l) where
-  M : Made c.fill-filled.new.store.0 c.fill-filled.new.store.1 c.remove_in-made.new.store.0 c.remove_in-made.new.store.1 c.args.grant.now c.args.speed a.l f.split.work (view c.remove_in-made.result)
+module _ (g : Over) (t : ℕ) (c : After-remove_in-made g t) (a : AbleIndex c.args.store.now (view c.args.page.now) c.args.speed)
+    (f : Filling c.args.store.now c.fill-filled.new.store c.args.speed a.l a.es c.fill-filled.result)
+    (room : Room c.args.store.now c.args.grant.now (suc a.l)) (level : c.args.page.now.level ≡ suc a.l) where
+  M : Made c.fill-filled.new.store c.remove_in-made.new.store c.args.grant.now c.args.speed a.l f.split.work (view c.remove_in-made.result)
   M = c.remove_in-made.ensures.made a.l f.split.work (part_ready _ _ _ _ _ _ a.ready _ _ f)
 
   flat : c.remove_in-made.result.level ≡ a.l

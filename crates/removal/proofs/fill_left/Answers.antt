@@ -22,8 +22,8 @@ module _ (g : Over) (c : After-read_page-child g) where
   more : suc c.args.i < length (entries c.args.page.now)
   more = omega (arith, c.requires.last, entries_length c.args.page.now)
 
-  last_held : Owned c.read_page-child.new.self.0 c.read_page-child.new.self.1 (get_or c.deref.result.now (c.args.i + 1) c.index-deref-i.result).value
-  last_held = subst (λ (z : State). Owned z.0 z.1 (get_or c.deref.result.now (c.args.i + 1) c.index-deref-i.result).value) (sym c.read_page-child.ensures.kept)
+  last_held : Owned c.read_page-child.new.self (get_or c.deref.result.now (c.args.i + 1) c.index-deref-i.result).value
+  last_held = subst (λ (z : State). Owned z (get_or c.deref.result.now (c.args.i + 1) c.index-deref-i.result).value) (sym c.read_page-child.ensures.kept)
       (owned_at _ _ _ _ c.requires.able (suc c.args.i) _ _ more next)
 
 pub open_page-requires-clause-owned : goal.open_page-requires-clause-owned
@@ -39,7 +39,7 @@ returns-then-len-ne-FEWEST g c = λ l es p.
 pub open-before-requires : goal.open-before-requires
 open-before-requires g c =
     let b : ℕ = (get_or c.deref-2.result.now c.args.i c.index-deref-i-2.result).value in
-    subst (λ (z : State). Owned z.0 z.1 b) (sym c.read_page-child.ensures.kept)
+    subst (λ (z : State). Owned z b) (sym c.read_page-child.ensures.kept)
     (owned_at _ _ _ _ c.requires.able c.args.i _ _ (omega (arith, c.requires.last, entries_length c.args.page.now)) (entry_read c.args.page.now c.args.i c.args.i _ _ refl (omega (arith, c.requires.last)) c.deref-2.ensures.0))
 
 module _ (g : Over) (c : After-open-before g) where

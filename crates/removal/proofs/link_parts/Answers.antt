@@ -2,7 +2,7 @@ use Rattle.std.proofs.Common.{◌≡◌, ℕ, List, ◌∷◌, get_or, sym, refl
 use Rattle.page.specs.View.{entries}
 use Rattle.edit.proofs.Laying.{first_small}
 use Rattle.removal.proofs.Fillings.{entry_read}
-use Rattle.removal.proofs.Linking.{at_within, these_merged, these_after, these_before}
+use Rattle.removal.proofs.Linking.{at_within, these_one, these_after, these_before}
 use Rattle.removal.proofs.link_parts.Given.{Over}
 use Rattle.removal.proofs.link_parts.Goals.{After-take}
 use Rattle.removal.proofs.link_parts.Goals as goal
@@ -33,17 +33,17 @@ invariant_of-right-in-Before g c = record {
   );
 }
 
-pub returns-in-Merged-clause-these : goal.returns-in-Merged-clause-these
-returns-in-Merged-clause-these g c =
-    let d = (goal.at.returns-in-Merged-clause-these g c).After-take in
-    these_merged c.args.page.now c.args.filled.now c.args.made.now c.args.grant.now _ _ (key g d) (left g d) c.in-Merged.is c.spliced-in-Merged.ensures.these
+pub returns-in-Apart-clause-these : goal.returns-in-Apart-clause-these
+returns-in-Apart-clause-these g c =
+    let d = (goal.at.returns-in-Apart-clause-these g c).After-take in
+    these_one c.args.page.now c.args.filled.now c.args.made.now c.args.grant.now _ _ _ c.replaced.ensures (key g d) (left g d) c.in-Apart.is c.spliced-in-Apart.ensures.these
 
 pub returns-in-After-clause-these : goal.returns-in-After-clause-these
 returns-in-After-clause-these g c =
     let d = (goal.at.returns-in-After-clause-these g c).After-take in
-    these_after c.args.page.now c.args.filled.now c.args.made.now c.args.grant.now _ _ (key g d) (left g d) _ (right g d _ _ c.take-in-After.ensures) c.spliced-in-After.ensures.these c.in-After.rest c.in-After.is c.first_speed.ensures
+    these_after c.args.page.now c.args.filled.now c.args.made.now c.args.grant.now _ _ _ c.replaced.ensures (key g d) (left g d) _ (right g d _ _ c.take-in-After.ensures) c.spliced.ensures.these c.in-After.rest c.in-After.is c.first_speed.ensures
 
 pub returns-in-Before-clause-these : goal.returns-in-Before-clause-these
 returns-in-Before-clause-these g c =
     let d = (goal.at.returns-in-Before-clause-these g c).After-take in
-    these_before c.args.page.now c.args.filled.now c.args.made.now c.args.grant.now _ _ (key g d) (left g d) _ (right g d _ _ c.take-in-Before.ensures) c.spliced-in-Before.ensures.these c.in-Before.rest c.in-Before.is c.first_speed-in-Before.ensures
+    these_before c.args.page.now c.args.filled.now c.args.made.now c.args.grant.now _ _ _ c.replaced.ensures (key g d) (left g d) _ (right g d _ _ c.take-in-Before.ensures) c.spliced-in-Before.ensures.these c.in-Before.rest c.in-Before.is c.first_speed-in-Before.ensures

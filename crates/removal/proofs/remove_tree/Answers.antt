@@ -38,7 +38,7 @@ module _ (g : Over) (c : After-remove_in-made g) where
   level : c.open-page.result.level ≡ t.0
   level = top_level _ _ _ _ _ _ _ p _ c.open-page.ensures.state (view c.open-page.result) c.open-page.ensures.page
 
-  M : Made c.open-page.new.self.0 c.open-page.new.self.1 c.remove_in-made.new.store.0 c.remove_in-made.new.store.1 c.args.grant c.args.speed t.0 t.1.1 (view c.remove_in-made.result)
+  M : Made c.open-page.new.self c.remove_in-made.new.store c.args.grant c.args.speed t.0 t.1.1 (view c.remove_in-made.result)
   M = c.remove_in-made.ensures.made _ _ (top_ready _ _ _ _ _ _ _ p _ c.open-page.ensures.state (view c.open-page.result) c.open-page.ensures.page)
 
 -- one child is left: it is the new root

@@ -15,7 +15,7 @@ use Rattle.mount.proofs.Walking.{passes_none}
 use Rattle.mount.proofs.clones.visit.Goals as goal
 
 pub walk-requires-clause-room : goal.walk-requires-clause-room
-walk-requires-clause-room g c = λ e. subst (λ (x : Due). Room c.args.store.now.0 c.args.store.now.1 (x.block ∷ [])) (sym c.root_due.ensures) (ready_room c.args.store.now.0 c.args.store.now.1 c.in-Some.root.block c.requires.ready)
+walk-requires-clause-room g c = λ e. subst (λ (x : Due). Room c.args.store.now (x.block ∷ [])) (sym c.root_due.ensures) (ready_room c.args.store.now.0 c.args.store.now.1 c.in-Some.root.block c.requires.ready)
 
 pub returns-in_err-walk-clause-answer : goal.returns-in_err-walk-clause-answer
 returns-in_err-walk-clause-answer g c =

@@ -58,7 +58,7 @@ walk-requires g t c κs within =
           subst (λ x. e.value < blocks_of x) (sym c.loop-i.invariant.kept) w.within,
           (
             omega (arith, c.requires.low),
-            (λ k. subst (λ x. Room x c.loop-i.store.1 (e.value ∷ [])) (sym c.loop-i.invariant.kept) (next_room m c.loop-i.store.1 (drop i es) (drop (i + 1) es) e.speed e.value w.here (c.loop-i.invariant.room k))),
+            (λ k. subst (λ x. Room (x, c.loop-i.store.1) (e.value ∷ [])) (sym c.loop-i.invariant.kept) (next_room m c.loop-i.store.1 (drop i es) (drop (i + 1) es) e.speed e.value w.here (c.loop-i.invariant.room k))),
           ),
         ),
       ),

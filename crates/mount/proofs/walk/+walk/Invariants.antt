@@ -19,5 +19,5 @@ invariant-loop-i g l =
       kept : l.store.0 ≡ m;
       fault : fault (drop l.i es) ≡ fault es;
       counts : cond l.first (tally (drop l.i es) l.store.1) l.store.1 ≡ cond l.first (tally es l.initial.store.1) l.initial.store.1;
-      room : l.first ≡ true → Room m l.store.1 (kids (drop l.i es));
+      room : l.first ≡ true → Room (m, l.store.1) (kids (drop l.i es));
     }

@@ -30,7 +30,7 @@ invariant_of-self g c =
     (kept_committed t i.store c.self.invariant c.args.n c.requires c.hold.new.store c.give_up.new.store c.hold.ensures.kept
     (c.hold.ensures.counts ∙ ap (λ o. add_all (root_in o) i.store.1) (place_is i.working c.args.n _ (omega (arith, c.requires, c.self.invariant.working))))
     c.give_up.ensures.kept
-    (subst (λ o. Dropped (root_in o) c.hold.new.store.0 c.hold.new.store.1 c.give_up.new.store.1) (place_is i.committed c.args.n _ (omega (arith, c.requires, c.self.invariant.committed))) c.give_up.ensures.dropped)
+    (subst (λ o. Dropped (root_in o) c.hold.new.store c.give_up.new.store.1) (place_is i.committed c.args.n _ (omega (arith, c.requires, c.self.invariant.committed))) c.give_up.ensures.dropped)
     c.give_up.ensures.sized)
 
 pub returns : goal.returns

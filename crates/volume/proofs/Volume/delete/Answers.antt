@@ -29,7 +29,7 @@ release-requires g c =
     let t : Tables = tables i.working i.committed i.generation in
     let at : place t.working c.args.n ≡ Some r = placed_here c.args.n c.self.view_is c.in_ok-root.ensures.1.1 in
     let up : 1 ≤ r.0 = (good t i.store c.self.invariant c.args.n r at c.in_ok-root.ensures.1.0).height in
-    subst (λ l. Held i.store.0 i.store.1 r.1 l) (top_is r.0 up) (held t i.store c.self.invariant c.args.n r at c.in_ok-root.ensures.1.0)
+    subst (λ l. Held i.store r.1 l) (top_is r.0 up) (held t i.store c.self.invariant c.args.n r at c.in_ok-root.ensures.1.0)
 
 pub invariant_of-self : goal.invariant_of-self
 invariant_of-self g c =

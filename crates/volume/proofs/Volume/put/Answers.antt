@@ -58,7 +58,7 @@ put_tree-requires-clause-editable g c =
 
 -- the row, as the call names it
 there : (t : Tables) (q q' : State) (K : Kept t q) (n : ℕ) (r r' : Root) (s v speed : ℕ) (angle : ℤ) → n < 24 → place t.working n ≡ Some r → s ≡ speed → v ≡ payload_of angle
-    → Edited (puts s v) (tree_at (current_at q.0) r) q.0 q.1 q'.0 q'.1 → r' ≡ top_of (changed_on ℕ (puts s v) (free_blocks q.1) (tree_at (current_at q.0) r)) → Good (blocks_of q'.0) (current_at q'.0) r'
+    → Edited (puts s v) (tree_at (current_at q.0) r) q q' → r' ≡ top_of (changed_on ℕ (puts s v) (free_blocks q.1) (tree_at (current_at q.0) r)) → Good (blocks_of q'.0) (current_at q'.0) r'
     → There t q.0 n (puts speed (payload_of angle)) r' q'.0 q'.1
 there t q q' K n r r' s v speed angle h at es ev E e G =
     subst (λ (x : ℕ). There t q.0 n (puts x (payload_of angle)) r' q'.0 q'.1) es

@@ -74,14 +74,14 @@ remove_tree-requires-clause-editable g c =
     let t : Tables = tables i.working i.committed i.generation in
     let r : Root = (c.in_ok-root.root.height, c.in_ok-root.root.block) in
     let at : place t.working c.args.n ≡ Some r = placed_here c.args.n c.self.view_is c.in_ok-root.ensures.1.1 in
-    subst (λ (q : State). Editable q.0 q.1 r) (sym c.get.ensures.kept) (editable t i.store.0 i.store.1 c.self.invariant c.args.n r at c.in_ok-root.ensures.1.0)
+    subst (λ (q : State). Editable q r) (sym c.get.ensures.kept) (editable t i.store.0 i.store.1 c.self.invariant c.args.n r at c.in_ok-root.ensures.1.0)
 
 -- the tree without the row, in the clone's place
 there : (t : Tables) (q p q' : State) (K : Kept t q) (n : ℕ) (r r' : Root) (s : ℕ) → n < 24 → place t.working n ≡ Some r → p ≡ q
-    → Edited (takes s) (tree_at (current_at p.0) r) p.0 p.1 q'.0 q'.1 → r' ≡ top_of (changed_on ℕ (takes s) (free_blocks p.1) (tree_at (current_at p.0) r)) → Good (blocks_of q'.0) (current_at q'.0) r'
+    → Edited (takes s) (tree_at (current_at p.0) r) p q' → r' ≡ top_of (changed_on ℕ (takes s) (free_blocks p.1) (tree_at (current_at p.0) r)) → Good (blocks_of q'.0) (current_at q'.0) r'
     → There t q.0 n (takes s) r' q'.0 q'.1
 there t q p q' K n r r' s h at e E o G =
-    take_there t q.0 q.1 K n h r at s q'.0 q'.1 r' (subst (λ (x : State). Edited (takes s) (tree_at (current_at x.0) r) x.0 x.1 q'.0 q'.1) e E)
+    take_there t q.0 q.1 K n h r at s q'.0 q'.1 r' (subst (λ (x : State). Edited (takes s) (tree_at (current_at x.0) r) x q') e E)
     (o ∙ ap (λ (x : State). top_of (changed_on ℕ (takes s) (free_blocks x.1) (tree_at (current_at x.0) r))) e) G
 
 pub invariant_of-self-2 : goal.invariant_of-self-2

@@ -41,12 +41,12 @@ release-requires g t c κs within =
     c.read_page-page.ensures.page c.deref-entry-items.ensures.0 c.requires.height c.if-level-gt0.true in
     let kid : get_or ks i 0 ≡ c.entry-item.result.value = get_or-map (λ (e : Entry). e.value) xs i c.entry-item.result 0 c.loop-entry-test.true ∙ ap (λ (e : Entry). e.value) (sym c.entry-item.is) in
     let lt : i < length ks = omega (arith, length-map xs (λ (e : Entry). e.value), c.loop-entry-test.true) in
-    let gone : Dropped (take i ks) s.0 q.1 c.loop-entry.self.1 = subst (λ (m : Meaning). Dropped (take i ks) m q.1 c.loop-entry.self.1) f.same c.loop-entry.invariant.dropped in (
+    let gone : Dropped (take i ks) (s.0, q.1) c.loop-entry.self.1 = subst (λ (m : Meaning). Dropped (take i ks) (m, q.1) c.loop-entry.self.1) f.same c.loop-entry.invariant.dropped in (
       omega (arith, c.decreases, c.if-level-gt0.true),
       (
         within,
-        subst (λ (m : Meaning). Held m c.loop-entry.self.1 c.entry-item.result.value (c.args.level - 1)) (sym (c.loop-entry.invariant.kept ∙ f.same))
-            (subst (λ (y : ℕ). Held s.0 c.loop-entry.self.1 y (c.args.level - 1)) kid
+        subst (λ (m : Meaning). Held (m, c.loop-entry.self.1) c.entry-item.result.value (c.args.level - 1)) (sym (c.loop-entry.invariant.kept ∙ f.same))
+            (subst (λ (y : ℕ). Held (s.0, c.loop-entry.self.1) y (c.args.level - 1)) kid
             (next_child c.args.block c.args.level ks i s.0 s.1 q.1 c.loop-entry.self.1 c.requires f.last f.less f.kids lt gone)),
       ),
     )
@@ -59,13 +59,13 @@ loop-entry-preserved g t c =
     let i = c.loop-entry.entry-index in
     let kid : get_or ks i 0 ≡ c.entry-item.result.value = get_or-map (λ (e : Entry). e.value) xs i c.entry-item.result 0 c.loop-entry-test.true ∙ ap (λ (e : Entry). e.value) (sym c.entry-item.is) in
     let lt : i < length ks = omega (arith, length-map xs (λ (e : Entry). e.value), c.loop-entry-test.true) in
-    let one_more : Dropped (get_or ks i 0 ∷ []) q.0 c.loop-entry.self.1 c.release.new.self.1
-    = subst (λ (y : ℕ). Dropped (y ∷ []) q.0 c.loop-entry.self.1 c.release.new.self.1) (sym kid)
-    (subst (λ (m : Meaning). Dropped (c.entry-item.result.value ∷ []) m c.loop-entry.self.1 c.release.new.self.1) c.loop-entry.invariant.kept c.release.ensures.dropped) in
+    let one_more : Dropped (get_or ks i 0 ∷ []) (q.0, c.loop-entry.self.1) c.release.new.self.1
+    = subst (λ (y : ℕ). Dropped (y ∷ []) (q.0, c.loop-entry.self.1) c.release.new.self.1) (sym kid)
+    (subst (λ (m : Meaning). Dropped (c.entry-item.result.value ∷ []) (m, c.loop-entry.self.1) c.release.new.self.1) c.loop-entry.invariant.kept c.release.ensures.dropped) in
     record {
       kept = c.release.ensures.kept ∙ c.loop-entry.invariant.kept;
       sized = c.release.ensures.sized ∙ c.loop-entry.invariant.sized;
-      dropped = subst (λ (ys : List ℕ). Dropped ys q.0 q.1 c.release.new.self.1) (sym (take_more ks i 0 lt)) (dropped_push (take i ks) (get_or ks i 0) q.0 q.1 c.loop-entry.self.1 c.release.new.self.1 c.loop-entry.invariant.dropped one_more);
+      dropped = subst (λ (ys : List ℕ). Dropped ys q c.release.new.self.1) (sym (take_more ks i 0 lt)) (dropped_push (take i ks) (get_or ks i 0) q.0 q.1 c.loop-entry.self.1 c.release.new.self.1 c.loop-entry.invariant.dropped one_more);
     }
 
 pub returns-after-loop-entry-clause-dropped : goal.returns-after-loop-entry-clause-dropped
@@ -78,7 +78,7 @@ returns-after-loop-entry-clause-dropped g t c =
     let f : Fell s c.args.block q xs = fell _ _ c.set.new.self.of.items s q c.args.block c.args.level c.get-count.result c.read_page-page.result xs c.self.view_is c.get-count.ensures c.if-count-eq1.true c.set.ensures c.read_page-page.ensures.kept
     c.read_page-page.ensures.page c.deref-entry-items.ensures.0 c.requires.height c.if-level-gt0.true in
     let all : take i ks ≡ ks = take_all i ks (omega (arith, length-map xs (λ (e : Entry). e.value), c.loop-entry-test.false)) in
-    let gone : Dropped ks s.0 q.1 c.loop-entry.self.1 = subst (λ (m : Meaning). Dropped ks m q.1 c.loop-entry.self.1) f.same (subst (λ (ys : List ℕ). Dropped ys q.0 q.1 c.loop-entry.self.1) all c.loop-entry.invariant.dropped) in
+    let gone : Dropped ks (s.0, q.1) c.loop-entry.self.1 = subst (λ (m : Meaning). Dropped ks (m, q.1) c.loop-entry.self.1) f.same (subst (λ (ys : List ℕ). Dropped ys q c.loop-entry.self.1) all c.loop-entry.invariant.dropped) in
     dropped_last c.args.block ks s.0 s.1 q.1 c.loop-entry.self.1 f.last f.less f.kids gone
 
 -- the store q after one reference to x is gone

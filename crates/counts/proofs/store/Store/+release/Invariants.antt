@@ -10,5 +10,5 @@ abbrev pub invariant-loop-entry : goal.invariant-loop-entry
 invariant-loop-entry g l = record {
   kept : l.self.0 ≡ l.initial.self.0;
   sized : length l.self.1 ≡ length l.initial.self.1;
-  dropped : Dropped (take l.entry-index (map (λ (e : Entry). e.value) l.entry-items)) l.initial.self.0 l.initial.self.1 l.self.1;
+  dropped : Dropped (take l.entry-index (map (λ (e : Entry). e.value) l.entry-items)) l.initial.self l.self.1;
 }
