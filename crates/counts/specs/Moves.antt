@@ -44,12 +44,11 @@ abbrev pub Laid : ℕ → List Move → Type 0
 Laid w [] = Unit {0}
 Laid w (v ∷ vs) = LaidMove w v × Laid w vs
 
--- someone holds a reference to block x; few references are from outside, and there are few blocks
+-- someone holds a reference to block x; few references are from outside
 pub record Owned (q : State) (x : ℕ) : Type 0 where
   pub others : ℕ → ℕ
   pub counted : Counted (block_at q.0) q.1 (λ b. one x b + others b)
   pub modest : (b : ℕ) → others b ≤ 2000
-  pub few : length q.1 ≤ 4096
 
 -- someone holds a reference to block x, of this level
 pub record Held (q : State) (x level : ℕ) : Type 0 where

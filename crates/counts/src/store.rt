@@ -73,8 +73,9 @@ impl<D: Device> Store<D> {
     // The n lowest free blocks, if there are so many.
     pub fn grant(&self, n: usize) -> Option<Grant>
         requires few { n ≤ 11 }
-        requires sized { (2 ≤ blocks_of self.now.0) × (blocks_of self.now.0 ≤ 4096) }
-        ensures { result ≡ lowest_free n self.now.1 }
+        requires some { 2 ≤ blocks_of self.now.0 }
+        ensures these { result ≡ lowest_free n self.now.1 }
+        ensures shape { Shaped self.now }
     {
         Grant::lowest(&self.counts, n)
     }
@@ -129,6 +130,7 @@ impl<D: Device> Store<D> {
         requires { Owned self.old block }
         ensures page { block_at self.old.0 block ≡ Some (view result) }
         ensures state { self.new ≡ step (opening block) self.old }
+        ensures shape { Shaped self.old }
     {
         let page = self.read_page(block);
         self.open_page(block, &page);
@@ -139,7 +141,8 @@ impl<D: Device> Store<D> {
     pub fn open_page(&mut self, block: u32, page: &Page)
         requires owned { Owned self.old block }
         requires holds { block_at self.old.0 block ≡ Some (view page.now) }
-        ensures { self.new ≡ step (opening block) self.old }
+        ensures state { self.new ≡ step (opening block) self.old }
+        ensures shape { Shaped self.old }
     {
         self.counts.open(block, page);
     }

@@ -9,7 +9,7 @@ use Rattle.counts.specs.Counts.{opened}
 use Rattle.edit.specs.Plan.{shallow, page, node_of, chosen, parted, placed, links, down, put_n, kid_moves, moves}
 use Rattle.counts.specs.Moves.{Move, opening, State, step, writes, Laid}
 use Rattle.edit.specs.Able.{Ready, Able, Made, Open}
-use Rattle.counts.specs.Moves.{Owned}
+use Rattle.counts.specs.Moves.{Shaped, Owned}
 use Rattle.edit.proofs.States.{same_by, writes_append}
 use Rattle.edit.proofs.Parting.{By}
 use Rattle.edit.proofs.Downs.{Covers, owned, key_is, number_is, child_node, part_ready, opened_free, up, shallow_length}
@@ -63,6 +63,7 @@ pub record Parts (q q₁ : State) (b s : ℕ) (child part : Block) : Type 0 wher
   pub level : part.level ≡ child.level
   pub these : part.entries ≡ chosen s child.entries
   pub state : q₁ ≡ step (opening b) q
+  pub shape : Shaped q
 
 -- what linking needs, once the part is made anew
 pub record Linkable (q : State) (gs : List ℕ) (n child made : Block) : Type 0 where
@@ -165,7 +166,7 @@ module _ (m : Meaning) (cs gs : List ℕ) (n : Block) (s : ℕ) where
                 let y : get_or hs 1 0 ≡ get_or gs (2 * l + 1) 0 = right_is l es p in
                 record {
                   two = omega (arith, ap length taken ∙ length-drop (2 * part.level) gs, part_level l es p, ap (λ (x : Block). x.level) p.is, enough);
-                  wide = omega (arith, r₁.width, r₂.width, p.wide.0);
+                  wide = omega (arith, r₁.width, r₂.width, P.shape.wide.0);
                   left = omega (arith, r₁.left, r₂.left, moves_writes gs s a l (chosen s t.1), p.left);
                   places = record {
                     left_on = omega (arith, r₁.blocks, r₂.blocks, pl.0, x);
@@ -175,7 +176,7 @@ module _ (m : Meaning) (cs gs : List ℕ) (n : Block) (s : ℕ) where
                     right_in = omega (arith, r₁.counts, r₂.counts, pr.1, y);
                     right_free = ap (λ (b : ℕ). get_or q₂.1 b 0) y ∙ far (get_or gs (2 * l + 1) 0) (λ i lt e. p.free.apart i (2 * l + 1) (omega arith) (omega arith) (sym e)) (p.free.count (2 * l + 1) (omega arith));
                     apart = λ e. p.free.apart (2 * l) (2 * l + 1) (omega arith) (omega arith) (sym x ∙ e ∙ y);
-                    few = omega (arith, r₁.counts, r₂.counts, p.few);
+                    few = omega (arith, r₁.counts, r₂.counts, P.shape.sized, P.shape.lawful.few);
                   };
                   level = ap (λ (x : Block). x.level) M.is ∙ sym (ap (λ (x : Block). x.level) (child_is l es p));
                   above = omega (arith, ap (λ (x : Block). x.level) (child_is l es p), ap (λ (x : Block). x.level) p.is);

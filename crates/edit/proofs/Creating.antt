@@ -9,29 +9,29 @@ use Rattle.counts.specs.Moves.{Move, linking, State, step, run}
 use Rattle.model.specs.TreeBlocks as model
 use Rattle.model.specs.TreeBlocks.{Change.begin, changed_on, new_blocks, bare_tree, root_of}
 use Rattle.edit.specs.Plan.{page}
-use Rattle.edit.specs.Edited.{Counting, Granted, Edited}
+use Rattle.edit.specs.Edited.{Granted, Edited}
 use Rattle.edit.proofs.States.{run_same}
 use Rattle.edit.proofs.Keeps.{link_counted}
 use Rattle.edit.proofs.Traces.{ops, run_replay, ops_free}
 use Rattle.edit.proofs.Trees.{Spare}
 use Rattle.edit.proofs.Editing.{lowest, spares}
 
-module _ (m : Meaning) (cs gs : List ℕ) (C : Counting (m, cs)) (G : Granted 1 (m, cs) gs) (x : ℕ) (hs : List ℕ) (taken : gs ≡ x ∷ hs) where
+module _ (m : Meaning) (cs gs : List ℕ) (G : Granted 1 (m, cs) gs) (x : ℕ) (hs : List ℕ) (taken : gs ≡ x ∷ hs) where
   abbrev leaf : Block
   leaf = page 0 []
 
   laid : Layout m.width leaf
-  laid = record { wide = C.wide.0; few = omega arith; low = omega arith; small = λ i h. absurd (omega arith) }
+  laid = record { wide = G.shape.wide.0; few = omega arith; low = omega arith; small = λ i h. absurd (omega arith) }
 
   at : get_or gs 0 0 ≡ x
   at = ap (λ (z : List ℕ). get_or z 0 0) taken
 
   first : x ≡ get_or (free_blocks cs) 0 0
-  first = sym at ∙ lowest 1 m cs gs C G 0 (omega arith)
+  first = sym at ∙ lowest 1 m cs gs G 0 (omega arith)
 
   -- the leaf can be written
   pub leaf_spare : Spare m cs x
-  leaf_spare = subst (Spare m cs) at (spares 1 m cs gs C G 0 (omega arith))
+  leaf_spare = subst (Spare m cs) at (spares 1 m cs gs G 0 (omega arith))
 
   pub created_root : (1, x) ≡ root_of (changed_on ℕ begin (free_blocks cs) bare_tree)
   unfolding changed_on
@@ -60,6 +60,6 @@ module _ (m : Meaning) (cs gs : List ℕ) (C : Counting (m, cs)) (G : Granted 1 
         once = once;
         stored = subst (model.Stored (current_at (run vs q₀).0)) new there;
         counted = λ h c. subst (λ (v : model.Tree). Counted (block_at (run vs q₀).0) (run vs q₀).1 (λ b. one v.1.0 b + h b)) new
-            (link_counted q₀ x 0 [] h A.2 (omega (arith, A.1, C.sized)) A.1 laid tt c);
+            (link_counted q₀ x 0 [] h A.2 (omega (arith, A.1, G.shape.sized)) A.1 laid tt c);
         sized = (run_same vs q₀).counts;
       })

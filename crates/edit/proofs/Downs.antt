@@ -233,7 +233,7 @@ module _ (m : Meaning) (cs gs : List ℕ) (n : Block) (s l : ℕ) (es : List (�
   sides_le b = omega (arith, p.modest b, kids_around b l es i d at_e, kids_le b (suc l) es, p.room)
 
   pub owned : Owned (m, cs) t.0
-  owned = record { others = sides; counted = held; modest = λ b. omega (arith, sides_le b); few = p.few }
+  owned = record { others = sides; counted = held; modest = λ b. omega (arith, sides_le b) }
 
   child_stored : Stored (block_at m) (suc l) t
   child_stored = every_get (Stored (block_at m) (suc l)) es i d at_e p.stored
@@ -263,14 +263,12 @@ module _ (m : Meaning) (cs gs : List ℕ) (n : Block) (s l : ℕ) (es : List (�
         others = λ b. occ b (kids l (unchosen s t.1)) + sides b;
         counted = recount (λ b. occ b (kids_of (block_at m t.0)) + sides b) (λ b. occ b (kids l (chosen s t.1)) + (occ b (kids l (unchosen s t.1)) + sides b)) (λ b. omega (arith, a.occs b, kk b)) (open_counted m cs sides t.0 held);
         modest = λ b. omega (arith, sides_le b, kids_le b l (unchosen s t.1), a.few);
-        few = omega (arith, p.few, length_opened (kids_of (block_at m t.0)) t.0 cs);
         left = omega (arith, p.left);
         free = record {
           count = λ j h. opened_free (get_or gs j 0) (p.free.count j (omega arith));
           on = λ j h. ((p.free.on j (omega arith)).0, omega (arith, (p.free.on j (omega arith)).1, length_opened (kids_of (block_at m t.0)) t.0 cs));
           apart = λ i j h k. p.free.apart i j h (omega arith);
         };
-        wide = p.wide;
       }
 
   pub up : (a : ℕ) (q₁ q₂ q₃ : State) (ks : List (ℕ × ℕ)) (r : Block) → q₁ ≡ step (opening t.0) (m, cs) → q₂ ≡ run (moves gs s a l (chosen s t.1)) q₁ → Laid m.width (moves gs s a l (chosen s t.1))

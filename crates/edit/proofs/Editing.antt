@@ -7,10 +7,11 @@ use Rattle.device.proofs.Choices.{blocks_replay}
 use Rattle.tree.proofs.Laid.{same_rule}
 use Rattle.page.specs.Slot.{Root}
 use Rattle.counts.specs.Counts.{spare, free_blocks}
+use Rattle.counts.specs.Moves.{Shaped}
 use Rattle.model.specs.TreeBlocks.{Tree, Change, Change.begin, Change.puts, bare_tree, changed_on, top_level, tree_at, root_of, Stored, Each, Fit, Good}
 use Rattle.model.proofs.TreeLaws.{tree_stored, grow_fit, begin_fit}
 use Rattle.edit.specs.Kept.{Free}
-use Rattle.edit.specs.Edited.{Counting, Editable, Granted, Edited}
+use Rattle.edit.specs.Edited.{Editable, Granted, Edited}
 use Rattle.edit.proofs.Trees.{Spare, Rooted, from_model}
 
 -- the free blocks are within bounds, of count 0, and ascend
@@ -41,7 +42,7 @@ spare_up (suc k) b cs i j l =
     go ih zero (suc j) l h = let q = spare_at k (suc b) cs j (omega arith) in omega (arith, q.0)
     go ih (suc i) (suc j) l h = ih i j (omega arith) (omega arith)
 
-module _ (n : ℕ) (m : Meaning) (cs gs : List ℕ) (C : Counting (m, cs)) (G : Granted n (m, cs) gs) where
+module _ (n : ℕ) (m : Meaning) (cs gs : List ℕ) (G : Granted n (m, cs) gs) where
   pub lowest : (j : ℕ) → j < n → get_or gs j 0 ≡ get_or (free_blocks cs) j 0
   lowest j lt = ap (λ (z : List ℕ). get_or z j 0) G.these ∙ get_or-take n (free_blocks cs) j 0 lt
 
@@ -52,12 +53,12 @@ module _ (n : ℕ) (m : Meaning) (cs gs : List ℕ) (C : Counting (m, cs)) (G : 
   pub spares : (j : ℕ) → j < n → Spare m cs (get_or gs j 0)
   spares j lt =
       let q = spare_at (length cs - 2) 2 cs j (omega (arith, G.enough)) in
-      subst (Spare m cs) (sym (lowest j lt)) (q.0, omega (arith, q.1, q.0, C.sized), q.2)
+      subst (Spare m cs) (sym (lowest j lt)) (q.0, omega (arith, q.1, q.0, G.shape.sized), q.2)
 
   pub frees : Free (m, cs) gs n
   frees = record {
     count = λ j lt. (spares j lt).2;
-    on = λ j lt. let q = spares j lt in (q.1, omega (arith, q.1, C.sized));
+    on = λ j lt. let q = spares j lt in (q.1, omega (arith, q.1, G.shape.sized));
     apart = λ i j l lt e. omega (arith, lowest i (omega arith), lowest j lt, e, spare_up (length cs - 2) 2 cs i j l (omega (arith, G.enough)));
   }
 
@@ -83,12 +84,12 @@ rooted m cs gs root s E G sp =
       wf = (same_rule ℕ ℕ t.0 t.1).1 E.good.fit.laid;
       counted = E.counted;
       modest = E.modest;
-      few = E.counting.few;
-      free = subst (Free (m, cs) gs) (sym N) (frees (2 * root.0 + 1) m cs gs E.counting G);
-      slots = λ j lt. (spares (2 * root.0 + 1) m cs gs E.counting G j (omega (arith, N, lt))).0;
-      lowest = λ j lt. lowest (2 * root.0 + 1) m cs gs E.counting G j (omega (arith, N, lt));
+      few = omega (arith, G.shape.sized, G.shape.lawful.few);
+      free = subst (Free (m, cs) gs) (sym N) (frees (2 * root.0 + 1) m cs gs G);
+      slots = λ j lt. (spares (2 * root.0 + 1) m cs gs G j (omega (arith, N, lt))).0;
+      lowest = λ j lt. lowest (2 * root.0 + 1) m cs gs G j (omega (arith, N, lt));
       left = omega (arith, N, G.left);
-      wide = E.counting.wide;
+      wide = G.shape.wide;
       speed = sp;
     }
 
@@ -97,7 +98,7 @@ each_by : (N : ℕ → Type 0) (xs : List ℕ) → ((i : ℕ) → i < length xs 
 each_by N [] h = tt
 each_by N (x ∷ xs) h = (h 0 (omega arith), each_by N xs (λ i lt. h (suc i) (omega arith)))
 
-pub frees_inside : (m : Meaning) (cs : List ℕ) → Counting (m, cs) → Each (λ x. (2 ≤ x) × (x < blocks_of m)) (free_blocks cs)
+pub frees_inside : (m : Meaning) (cs : List ℕ) → Shaped (m, cs) → Each (λ x. (2 ≤ x) × (x < blocks_of m)) (free_blocks cs)
 frees_inside m cs C =
     each_by (λ x. (2 ≤ x) × (x < blocks_of m)) (free_blocks cs) (λ i lt. let q = spare_at (length cs - 2) 2 cs i lt in (q.0, omega (arith, q.0, q.1, C.sized)))
 
@@ -118,8 +119,8 @@ pub good_put : (m : Meaning) (cs gs : List ℕ) (root : Root) (s a : ℕ) → Ed
 good_put m cs gs root s a E G sp k m' cs' r e D =
     let t : Tree = tree_at (current_at m) root in
     let hi = (rooted m cs gs root s E G sp).height in
-    good_after (puts s a) t m cs m' cs' r e D (grow_fit (blocks_of m) (puts s a) (free_blocks cs) t (sp, k) (frees_inside m cs E.counting) (omega (arith, hi, G.enough)) E.good.fit)
+    good_after (puts s a) t m cs m' cs' r e D (grow_fit (blocks_of m) (puts s a) (free_blocks cs) t (sp, k) (frees_inside m cs G.shape) (omega (arith, hi, G.enough)) E.good.fit)
 
-pub good_create : (m : Meaning) (cs gs : List ℕ) → Counting (m, cs) → Granted 1 (m, cs) gs → (m' : Meaning) (cs' : List ℕ) (r : Root)
+pub good_create : (m : Meaning) (cs gs : List ℕ) → Granted 1 (m, cs) gs → (m' : Meaning) (cs' : List ℕ) (r : Root)
     → r ≡ root_of (changed_on ℕ begin (free_blocks cs) bare_tree) → Edited begin bare_tree (m, cs) (m', cs') → Good (blocks_of m') (current_at m') r
-good_create m cs gs C G m' cs' r e D = good_after begin bare_tree m cs m' cs' r e D (begin_fit (blocks_of m) (free_blocks cs) bare_tree (frees_inside m cs C) G.enough)
+good_create m cs gs G m' cs' r e D = good_after begin bare_tree m cs m' cs' r e D (begin_fit (blocks_of m) (free_blocks cs) bare_tree (frees_inside m cs G.shape) G.enough)

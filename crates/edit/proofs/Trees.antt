@@ -146,10 +146,8 @@ module _ (m : Meaning) (cs gs : List ℕ) (root : Root) (s : ℕ) (r : model.Tre
     others = h;
     counted = above;
     modest = λ b. omega (arith, p.modest b, low);
-    few = p.few;
     left = omega (arith, p.left);
     free = record { count = λ j lt. p.free.count j (omega arith); on = λ j lt. p.free.on j (omega arith); apart = λ i j k lt. p.free.apart i j k (omega arith) };
-    wide = p.wide;
   }
 
   pub top_able : (n : Block) → n.level ≡ root.0 → n.entries ≡ (0, root.1) ∷ [] → Able (m, cs) gs n s

@@ -4,7 +4,6 @@ use Rattle.device.specs.Meaning.{blocks_of}
 use Rattle.tree.specs.Node.{Seg, Every}
 use Rattle.tree.specs.Tree.{Pay, Gap, Span, Enough}
 use Rattle.page.specs.Block.{Block, block_at}
-use Rattle.page.specs.Io.{Wide}
 use Rattle.counts.specs.Counts.{occ, Counted}
 use Rattle.counts.specs.Moves.{State, run, Laid}
 use Rattle.edit.specs.Plan.{node_of, kids, Stored, moves, put_n}
@@ -29,10 +28,8 @@ pub record Ready (q : State) (gs : List ℕ) (n : Block) (s l : ℕ) (es : List 
   pub others : ℕ → ℕ
   pub counted : Counted (block_at q.0) q.1 (λ b. occ b (kids l es) + others b)
   pub modest : (b : ℕ) → others b + 32 * l ≤ 2000
-  pub few : length q.1 ≤ 4096
   pub left : 2 * l ≤ q.0.left
   pub free : Free q gs (2 * l)
-  pub wide : Wide q.0
 
 -- the page holds entries of some level
 pub record Able (q : State) (gs : List ℕ) (n : Block) (s : ℕ) : Type 0 where

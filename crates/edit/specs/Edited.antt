@@ -3,29 +3,22 @@ use Rattle.std.specs.Prelude.{◌≡◌, ℕ, ◌+◌, ◌<◌, ◌≤◌, List,
 use Rattle.device.specs.Meaning.{blocks_of, current_at}
 use Rattle.device.specs.Cuts.{Op, Op.write, Op.flush, replay}
 use Rattle.page.specs.Block.{block_at}
-use Rattle.page.specs.Io.{Wide}
 use Rattle.page.specs.Slot.{Root}
 use Rattle.counts.specs.Counts.{one, occ, Counted, free_blocks}
-use Rattle.counts.specs.Moves.{State}
+use Rattle.counts.specs.Moves.{State, Shaped}
 use Rattle.model.specs.TreeBlocks.{Tree, Change, Change.begin, Change.puts, Change.takes, changed_on, new_blocks, Stored, Each, Good}
 use Rattle.model.specs.World.{targets}
 
--- the device's width is one that a volume uses, and each of its blocks, of which there are few, has a count
-pub record Counting (q : State) : Type 0 where
-  pub wide : Wide q.0
-  pub sized : length q.1 ≡ blocks_of q.0
-  pub few : length q.1 ≤ 4096
-
 -- the counts are right, and one of the references is to this root, whose tree is sound
 pub record Editable (q : State) (root : Root) : Type 0 where
-  pub counting : Counting q
   pub good : Good (blocks_of q.0) (current_at q.0) root
   pub others : ℕ → ℕ
   pub counted : Counted (block_at q.0) q.1 (λ b. one root.1 b + others b)
   pub modest : (b : ℕ) → others b ≤ 1000
 
--- the grant has the n lowest free blocks, and so many writes are left
+-- the grant has the n lowest free blocks of a store, and so many writes are left
 pub record Granted (n : ℕ) (q : State) (grant : List ℕ) : Type 0 where
+  pub shape : Shaped q
   pub these : grant ≡ take n (free_blocks q.1)
   pub enough : n ≤ length (free_blocks q.1)
   pub left : n ≤ q.0.left

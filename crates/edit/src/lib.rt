@@ -11,7 +11,7 @@ ghost use Rattle.counts.specs.Moves.{linking, run};
 ghost use Rattle.model.specs.TreeBlocks.{Change.begin, Change.puts, bare_tree, changed_on, tree_at, root_of, Good};
 ghost use Rattle.edit.specs.Plan.{parted, placed, links};
 ghost use Rattle.edit.specs.Remove.{RemoveKeeps, Removes};
-ghost use Rattle.edit.specs.Edited.{Counting, Editable, Granted, Edited};
+ghost use Rattle.edit.specs.Edited.{Editable, Granted, Edited};
 ghost use Rattle.edit.specs.Able.{Open, Able, Ready, Made};
 
 mod kids;
@@ -139,7 +139,6 @@ pub fn put_tree<D: Device>(store: &mut Store<D>, root: Root, row: Entry, mut gra
 
 // Makes a tree of one leaf with no row, and holds it.
 pub fn create_tree<D: Device>(store: &mut Store<D>, mut grant: Grant) -> Root
-    requires counting { Counting store.old }
     requires granted { Granted 1 store.old grant }
     ensures root { (result.height, result.block) ≡ root_of (changed_on ℕ begin (free_blocks store.old.1) bare_tree) }
     ensures edited { Edited begin bare_tree store.old store.new }

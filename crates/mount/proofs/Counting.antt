@@ -28,12 +28,11 @@ at_zero zero b = refl
 at_zero (suc n) zero = refl
 at_zero (suc n) (suc b) = at_zero n b
 
-pub counting_none : (m : Meaning) (cs : List ℕ) → blocks_of m ≤ 4096 → cs ≡ replicate (blocks_of m) 0 → Counting (m, cs) []
-counting_none m cs few e =
+pub counting_none : (m : Meaning) (cs : List ℕ) → cs ≡ replicate (blocks_of m) 0 → Counting (m, cs) []
+counting_none m cs e =
     subst (λ ds. Counting (m, ds) []) (sym e)
     (record {
       long = length-replicate (blocks_of m) 0;
-      few = omega (arith, length-replicate {A = ℕ} (blocks_of m) 0, few);
       owing = λ b. omega (arith, at_zero (blocks_of m) b, parents_zero (λ x. kids_of (block_at m x)) (blocks_of m) b);
       fine = λ x p. absurd (omega (arith, at_zero (blocks_of m) x));
     })
@@ -51,8 +50,6 @@ ready_room m cs b r = record {
   others = one b;
   owing = λ x. omega (arith, r.counting.owing x);
   modest = λ x. outs_few r.roots b x r.few;
-  sized = r.counting.long;
-  few = r.counting.few;
 }
 
 -- what a root keeps
@@ -90,12 +87,9 @@ module _ (m : Meaning) (cs : List ℕ) (r : Root) (y : Ready (m, cs)) (low : r.0
   pub walked_long : length ds ≡ blocks_of m
   walked_long = walked.0 ∙ y.counting.long
 
-  walked_few : length ds ≤ 4096
-  walked_few = omega (arith, walked.0, y.counting.few)
-
-  pub walked_small : get_or ds b 0 < 65535
-  walked_small = count_small m ds (b ∷ []) b
-      (record { outside = outs y.roots b; others = λ x. 0; owing = λ x. omega (arith, after x); modest = λ x. outs_few y.roots b x y.few; sized = walked_long; few = walked_few })
+  pub walked_small : length cs ≤ 4096 → get_or ds b 0 < 65535
+  walked_small few = count_small m ds (b ∷ []) b (omega (arith, walked.0, few))
+      (record { outside = outs y.roots b; others = λ x. 0; owing = λ x. omega (arith, after x); modest = λ x. outs_few y.roots b x y.few })
 
   pub counting_step : Counting (m, retained b ds) (y.roots ++ b ∷ [])
   counting_step =
@@ -105,7 +99,6 @@ module _ (m : Meaning) (cs : List ℕ) (r : Root) (y : Ready (m, cs)) (low : r.0
       let in-ds : b < length ds = omega (arith, walked_long) in
       record {
         long = length-set ds b (get_or ds b 0 + 1) ∙ walked_long;
-        few = omega (arith, length-set ds b (get_or ds b 0 + 1), walked_few);
         owing = λ x. omega (arith, count_more (block_at m) ds h (λ z. 0) b in-ds own alive x, occ_append x y.roots (b ∷ []));
         fine = λ x p. ⊎_elim (λ q. y.counting.fine x q) (λ f. f)
             (walked.2 x (⊎_elim (λ e. subst (λ n. 0 < get_or ds n 0) (sym e) alive) (λ ne. subst (λ n. 0 < n) (get_or-set_other ds b x (get_or ds b 0 + 1) 0 ne) p) (cases_eq x b)));

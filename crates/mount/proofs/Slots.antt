@@ -26,13 +26,13 @@ usable_of m h =
     let a = and_parts (leb 16 (blocks_of m) && leb (blocks_of m) 4096) (leb 32 m.width && leb m.width 40) h in
     let b = and_parts (leb 16 (blocks_of m)) (leb (blocks_of m) 4096) a.0 in
     let c = and_parts (leb 32 m.width) (leb m.width 40) a.1 in
-    record { many = leb-true 16 (blocks_of m) b.0; few = leb-true (blocks_of m) 4096 b.1; wide = leb-true 32 m.width c.0; narrow = leb-true m.width 40 c.1 }
+    record { many = leb-true 16 (blocks_of m) b.0; few = leb-true (blocks_of m) 4096 b.1; wide = (leb-true 32 m.width c.0, leb-true m.width 40 c.1) }
 
 pub usable_to : (m : Meaning) → Usable m → sizes (blocks_of m) m.width ≡ true
 usable_to m u =
     and_from (leb 16 (blocks_of m) && leb (blocks_of m) 4096) (leb 32 m.width && leb m.width 40)
     (and_from (leb 16 (blocks_of m)) (leb (blocks_of m) 4096) (le-leb 16 (blocks_of m) u.many) (le-leb (blocks_of m) 4096 u.few))
-    (and_from (leb 32 m.width) (leb m.width 40) (le-leb 32 m.width u.wide) (le-leb m.width 40 u.narrow))
+    (and_from (leb 32 m.width) (leb m.width 40) (le-leb 32 m.width u.wide.0) (le-leb m.width 40 u.wide.1))
 
 pub fits_from : (m : Meaning) (b w : ℕ) → b ≡ blocks_of m → w ≡ m.width → true ≡ sizes b w → sizes (blocks_of m) m.width ≡ true
 fits_from m b w e f h = ap (λ n. sizes n m.width) (sym e) ∙ ap (sizes b) (sym f) ∙ sym h
@@ -91,7 +91,7 @@ read_slot_lem m b (words ws) x u e w h =
       parity = y.1;
       holds = record {
         content = ap (current_at m) y.1 ∙ e ∙ ap words (y.0 ∙ ap (λ n. slot_words n x.0 x.1) w.0);
-        fits = fits_read (blocks_of m) m.width b ws x u.few u.wide w.0 h;
+        fits = fits_read (blocks_of m) m.width b ws x u.few u.wide.0 w.0 h;
       };
     }
 

@@ -1,5 +1,5 @@
 -- The steps of the walk.
-use Rattle.std.proofs.Common.{◌≡◌, ℕ, zero, suc, ◌+◌, ◌-◌, ◌<◌, Bool, true, false, cond, ◌&&◌, eqb, ltb, leb, List, [], ◌∷◌, map, length, get_or, drop, Some, None, Ok, Err, Option, Result, sym, refl, ap, ◌∙◌, subst, arith, length-set}
+use Rattle.std.proofs.Common.{◌≡◌, ℕ, zero, suc, ◌+◌, ◌-◌, ◌<◌, ◌≤◌, Bool, true, false, cond, ◌&&◌, eqb, ltb, leb, List, [], ◌∷◌, map, length, get_or, drop, Some, None, Ok, Err, Option, Result, sym, refl, ap, ◌∙◌, subst, arith}
 use Rattle.std.proofs.lemmas.Bool.{and_parts, ltb-true, eqb-true}
 use Rattle.std.specs.Option.{option_or}
 use Rattle.device.specs.Meaning.{Meaning, Content, blocks_of, current_at}
@@ -23,9 +23,9 @@ use Rattle.mount.proofs.Blocks.{split_fault, loaded_made}
 use Rattle.mount.proofs.Tally.{tallies, count_first}
 
 -- Counts stay small.
-pub count_small : (m : Meaning) (cs due : List ℕ) (b : ℕ) → Room (m, cs) due → get_or cs b 0 < 65535
-count_small m cs due b r =
-    omega (arith, r.owing b, r.modest b, r.few, parents_le (λ x. kids_of (block_at m x)) cs b (few_kids m))
+pub count_small : (m : Meaning) (cs due : List ℕ) (b : ℕ) → length cs ≤ 4096 → Room (m, cs) due → get_or cs b 0 < 65535
+count_small m cs due b few r =
+    omega (arith, r.owing b, r.modest b, few, parents_le (λ x. kids_of (block_at m x)) cs b (few_kids m))
 
 -- Answers.
 pub passes_none : (k : ℕ) (o : Option Fault) → Ok tt ≡ passes k o → o ≡ None
@@ -80,22 +80,19 @@ module _ (m : Meaning) (d : Due) (p : Page) (es : List (ℕ × ℕ)) (ld : Loade
   first_among : 0 < d.level → first_fault m d ≡ among (child_fault m d) d.high es
   first_among up = first_below ∙ below_index (blocks_of m) (current_at m) d.level d.high es up
 
-  pub start_room : (counting first : Bool) (cs cs' : List ℕ) → 0 < d.level → d.block < blocks_of m → (counting ≡ true → Room (m, cs) (d.block ∷ []))
+  pub start_room : (counting first : Bool) (cs cs' : List ℕ) → 0 < d.level → d.block < length cs → (counting ≡ true → Room (m, cs) (d.block ∷ []))
       → first ≡ (counting && eqb (get_or cs d.block 0) 0) → cs' ≡ cond counting (retained d.block cs) cs → first ≡ true → Room (m, cs') (kids es)
   start_room counting first cs cs' up lt room ef ec t =
       let a = and_parts counting (eqb (get_or cs d.block 0) 0) (sym ef ∙ t) in
       let z = eqb-true (get_or cs d.block 0) 0 a.1 in
       let r = room a.0 in
-      let longer = length-set cs d.block (get_or cs d.block 0 + 1) in
       let e : cs' ≡ retained d.block cs = ec ∙ ap (λ x. cond x (retained d.block cs) cs) a.0 in
       subst (λ ds. Room (m, ds) (kids es)) (sym e)
       (record {
         outside = r.outside;
         others = r.others;
-        owing = λ b. omega (arith, count_first (block_at m) cs r.outside r.others d.block (omega (arith, lt, r.sized)) (λ x. omega (arith, r.owing x)) z b, ap (occ b) (kids_here up));
+        owing = λ b. omega (arith, count_first (block_at m) cs r.outside r.others d.block lt (λ x. omega (arith, r.owing x)) z b, ap (occ b) (kids_here up));
         modest = r.modest;
-        sized = longer ∙ r.sized;
-        few = omega (arith, longer, r.few);
       })
 
   child_in : (i s c : ℕ) (rest : List (ℕ × ℕ)) → 0 < d.level → drop i es ≡ (s, c) ∷ rest → c < blocks_of m
@@ -160,27 +157,23 @@ next_room m cs es rest s c e r = record {
   others = λ b. occ b (kids rest) + r.others b;
   owing = λ b. omega (arith, r.owing b, ap (λ es. occ b (kids es)) e);
   modest = r.modest;
-  sized = r.sized;
-  few = r.few;
 }
 
 -- A child was walked.
 pub among_step : (f : ℕ → ℕ → ℕ → Option Fault) (hi : ℕ) (es rest all : List (ℕ × ℕ)) (s c : ℕ) → es ≡ (s, c) ∷ rest → f s (next hi rest) c ≡ None → among f hi es ≡ among f hi all → among f hi rest ≡ among f hi all
 among_step f hi es rest all s c e k inv = sym (ap (λ o. option_or o (among f hi rest)) k) ∙ sym (ap (among f hi) e) ∙ inv
 
-module _ (m : Meaning) (l s hi c : ℕ) (first : Bool) (cs ds : List ℕ) (low : l < 5) (lt : c < blocks_of m) (k : fault_at (blocks_of m) (current_at m) 7 l s hi c ≡ None) (e : ds ≡ cond first (tallied m l c cs) cs) where
+module _ (m : Meaning) (l s hi c : ℕ) (first : Bool) (cs ds : List ℕ) (low : l < 5) (long : length cs ≡ blocks_of m) (lt : c < blocks_of m) (k : fault_at (blocks_of m) (current_at m) 7 l s hi c ≡ None) (e : ds ≡ cond first (tallied m l c cs) cs) where
   pub room_step : (es rest : List (ℕ × ℕ)) → es ≡ (s, c) ∷ rest → (first ≡ true → Room (m, cs) (kids es)) → first ≡ true → Room (m, ds) (kids rest)
   room_step es rest q room t =
       let r = room t in
-      let w = tallies m 7 l s hi c cs low (omega (arith, lt, r.sized)) r.sized k in
+      let w = tallies m 7 l s hi c cs low (omega (arith, lt, long)) long k in
       subst (λ zs. Room (m, zs) (kids rest)) (sym (e ∙ ap (λ x. cond x (tallied m l c cs) cs) t))
       (record {
         outside = r.outside;
         others = r.others;
         owing = w.1 r.outside (λ b. occ b (kids rest) + r.others b) (λ b. omega (arith, r.owing b, ap (λ es. occ b (kids es)) q));
         modest = r.modest;
-        sized = w.0 ∙ r.sized;
-        few = omega (arith, w.0, r.few);
       })
 
 pub along_step : (m : Meaning) (l c s : ℕ) (first : Bool) (cs ds xs : List ℕ) (es rest : List (ℕ × ℕ)) → es ≡ (s, c) ∷ rest → ds ≡ cond first (tallied m l c cs) cs

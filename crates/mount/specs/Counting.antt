@@ -37,10 +37,9 @@ abbrev pub count_at : Meaning → Option Root → List ℕ → List ℕ
 count_at m None cs = cs
 count_at m (Some r) cs = retained r.1 (tallied m (top_level r.0) r.1 cs)
 
--- the counts of few blocks are right for these roots, each twice
+-- each block has a count, and the counts are right for these roots, each twice
 pub record Counting (q : State) (roots : List ℕ) : Type 0 where
   pub long : length q.1 ≡ blocks_of q.0
-  pub few : length q.1 ≤ 4096
   pub owing : Owing (block_at q.0) q.1 (λ b. occ b roots + occ b roots) (λ b. 0)
   pub fine : (x : ℕ) → 0 < slice_index q.1 x → Fine (block_at q.0) x
 

@@ -3,6 +3,7 @@ use Rattle.std.specs.Prelude.{◌≡◌, ℕ, ◌≤◌, Some, None, Ok, Err, Op
 use Rattle.device.specs.Numbers.{fault_mark}
 use Rattle.device.specs.Meaning.{Meaning, blocks_of, current_at}
 use Rattle.page.specs.Block.{block_at}
+use Rattle.page.specs.Io.{Wide}
 use Rattle.page.specs.View.{view}
 use Rattle.page.specs.declared.page.Page.{Page}
 use Rattle.model.specs.declared.refusal.Refusal.{Refusal}
@@ -16,8 +17,7 @@ use Rattle.mount.specs.declared.walk.Met.{Met}
 pub record Usable (m : Meaning) : Type 0 where
   pub many : 16 ≤ blocks_of m
   pub few : blocks_of m ≤ 4096
-  pub wide : 32 ≤ m.width
-  pub narrow : m.width ≤ 40
+  pub wide : Wide m
 
 -- the fault of the block itself
 abbrev pub own_fault : Meaning → Due → Option Fault

@@ -1,6 +1,6 @@
 -- Counts that a walk adds up: a block's children are counted when the block is first met.
-use Rattle.std.specs.Prelude.{◌≡◌, ℕ, zero, suc, ◌+◌, ◌<◌, ◌≤◌, true, cond, List, [], ◌∷◌, map, length, is_some, Option, ◌==◌, slice_index}
-use Rattle.device.specs.Meaning.{Meaning, blocks_of}
+use Rattle.std.specs.Prelude.{◌≡◌, ℕ, zero, suc, ◌+◌, ◌<◌, ◌≤◌, true, cond, List, [], ◌∷◌, map, is_some, Option, ◌==◌, slice_index}
+use Rattle.device.specs.Meaning.{Meaning}
 use Rattle.page.specs.Block.{Block, block_at, kids_of, level_of}
 use Rattle.counts.specs.Counts.{occ, parents}
 use Rattle.counts.specs.Keeping.{retained}
@@ -25,14 +25,12 @@ tallied m (suc l) b cs = cond (slice_index cs b == 0) (along (tallied m l) (entr
 abbrev pub kids : List (ℕ × ℕ) → List ℕ
 kids es = map (λ e. e.1) es
 
--- references to the blocks `due`, and some others, are known and not counted yet; few are from outside, and there are few blocks
+-- references to the blocks `due`, and some others, are known and not counted yet; few are from outside
 pub record Room (q : State) (due : List ℕ) : Type 0 where
   pub outside : ℕ → ℕ
   pub others : ℕ → ℕ
   pub owing : Owing (block_at q.0) q.1 outside (λ b. occ b due + others b)
   pub modest : (b : ℕ) → outside b ≤ 48
-  pub sized : length q.1 ≡ blocks_of q.0
-  pub few : length q.1 ≤ 4096
 
 -- a tree block, whose children are one level below
 pub record Fine (g : ℕ → Option Block) (x : ℕ) : Type 0 where

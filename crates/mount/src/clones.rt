@@ -58,7 +58,7 @@ pub fn walk_clones<D: Device>(store: &mut Store<D>, slot: &Slot) -> Result<(), R
     requires none { Counting store.old [] }
     ensures kept { store.new.0 ≡ store.old.0 }
     ensures answer { result ≡ table_walk store.old.0 0 (map root_of slot.now.places) }
-    ensures counts { OnOk result (Counting (store.old.0, store.new.1) (roots_of (map root_of slot.now.places))) }
+    ensures counts { OnOk result (Counting store.new (roots_of (map root_of slot.now.places))) }
 {
     for (clone, place) in slot.places.iter().enumerate() {
         visit(store, *place, clone as u32)?;

@@ -57,7 +57,7 @@ pub fn no_counts<D: Device>(heap: Global, device: &D) -> Result<Counts, Refusal>
 fn count_clones<D: Device>(store: &mut Store<D>) -> Result<Slot, Refusal>
     requires { Blank store.old }
     ensures kept { store.new.0 ≡ store.old.0 }
-    ensures answer { MatchResult result (λ s. (found store.old.0 ≡ Ok (slot_of s)) × Counting (store.old.0, store.new.1) (roots_of (slot_of s).1)) (λ e. found store.old.0 ≡ Err e) }
+    ensures answer { MatchResult result (λ s. (found store.old.0 ≡ Ok (slot_of s)) × Counting store.new (roots_of (slot_of s).1)) (λ e. found store.old.0 ≡ Err e) }
 {
     let slot = read_table(store).ok_or(Refusal::NoVolume)?;
     walk_clones(store, &slot)?;

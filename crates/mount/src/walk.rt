@@ -5,6 +5,7 @@ ghost use Rattle.page.specs.Slot.{every};
 ghost use Rattle.page.specs.View.{pair, view, entries};
 ghost use Rattle.tree.specs.Layout.{next};
 ghost use Rattle.counts.specs.Keeping.{retained};
+ghost use Rattle.counts.specs.Moves.{Shaped};
 ghost use Rattle.model.specs.Walk.{ascending, starts, payable, well_made};
 ghost use Rattle.mount.specs.Due.{own_fault, first_fault, passes, refusal_of, Loaded};
 ghost use Rattle.mount.specs.Tally.{Room, tallied};
@@ -105,6 +106,7 @@ fn load<D: Device>(store: &mut Store<D>, due: Due) -> Result<Page, Refusal>
     requires { due.block < blocks_of store.old.0 }
     ensures kept { store.new ≡ store.old }
     ensures answer { MatchResult result (λ p. Loaded store.old.0 due p) (λ e. Err e ≡ passes due.clone (own_fault store.old.0 due)) }
+    ensures shape { Shaped store.old }
 {
     let Due { clone, block, .. } = due;
     let blocks = store.blocks();
@@ -137,6 +139,7 @@ pub fn walk<D: Device>(store: &mut Store<D>, due: Due, counting: bool) -> Result
     ensures kept { store.new.0 ≡ store.old.0 }
     ensures answer { result ≡ passes due.clone (first_fault store.old.0 due) }
     ensures counts { OnOk result (store.new.1 ≡ (if counting then tallied store.old.0 due.level due.block store.old.1 else store.old.1)) }
+    ensures shape { Shaped store.old }
 {
     let page = load(store, due)?;
     let first = meet(store, due.block, counting);

@@ -11,7 +11,7 @@ use Rattle.page.specs.declared.page.Page.{Page}
 use Rattle.page.specs.declared.page.Entry.{Entry}
 use Rattle.page.proofs.Pages.{entries_length, entries_at}
 use Rattle.counts.specs.Counts.{one, occ, Counted}
-use Rattle.counts.proofs.Opens.{recount, open_counted, length_opened, few_kids, occ_le, held_alive}
+use Rattle.counts.proofs.Opens.{recount, open_counted, few_kids, occ_le, held_alive}
 use Rattle.counts.specs.Moves.{opening, State, step, Owned}
 use Rattle.edit.specs.Plan.{shallow, page, node_of, kids, Stored}
 use Rattle.edit.proofs.Downs.{kids_append, kids_around, kids_le, shallow_length}
@@ -65,7 +65,6 @@ module _ (m : Meaning) (cs : List ℕ) (n : Block) (s l : ℕ) (es : List (ℕ �
         others = rest;
         counted = recount (λ c. occ c (kids (suc l) es) + p.others c) (λ c. one b c + rest c) (λ c. omega (arith, kids_around c l es j D h, ap (λ (z : ℕ). one z c) e)) p.counted;
         modest = λ c. omega (arith, kids_around c l es j D h, kids_le c (suc l) es, p.few, p.modest c);
-        few = p.size;
       }
 
   -- once it is opened, so is the next
@@ -80,7 +79,6 @@ module _ (m : Meaning) (cs : List ℕ) (n : Block) (s l : ℕ) (es : List (ℕ �
         others = rest;
         counted = recount (λ c. occ c (kids_of (block_at m b)) + h₁ c) (λ c. one b₂ c + rest c) (λ c. omega arith) (open_counted m cs h₁ b c₁);
         modest = λ c. omega (arith, cut c, kids_le c (suc l) es, p.few, p.modest c, occ_le c (kids_of (block_at m b)), few_kids m b);
-        few = omega (arith, p.size, length_opened (kids_of (block_at m b)) b cs);
       })
 
   same_device : (b : ℕ) (q : State) → q ≡ step (opening b) (m, cs) → q.0 ≡ m

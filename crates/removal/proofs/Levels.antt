@@ -8,7 +8,7 @@ use Rattle.page.specs.Block.{Block, block_at}
 use Rattle.page.specs.View.{view, entries}
 use Rattle.counts.specs.Counts.{occ, Counted}
 use Rattle.counts.proofs.Opens.{recount}
-use Rattle.counts.specs.Moves.{Move, State, run, writes, Laid}
+use Rattle.counts.specs.Moves.{Move, State, Shaped, run, writes, Laid}
 use Rattle.edit.specs.Plan.{shallow, page, kids, Stored, placed, links}
 use Rattle.edit.specs.Able.{Open}
 use Rattle.edit.specs.Kept.{Free}
@@ -107,8 +107,6 @@ module _ (m : Meaning) (cs : List ℕ) (n : Block) (s l : ℕ) (es : List (ℕ �
         others = others;
         counted = subst (λ (x : Meaning). Counted (block_at x) q₁.1 (λ b. occ b (kids l S.work) + others b)) (sym dev) cc₁;
         modest = λ b. omega (arith, around b, kids_le b (suc l) es, p.few, p.modest b, kids_le b l (rest_of S.side), S.rest_few);
-        size = omega (arith, p.size, z.counts);
-        wide = (omega (arith, p.wide.0, z.width), omega (arith, p.wide.1, z.width));
       }
 
   pub part_level : f.part.level ≡ l
@@ -145,20 +143,20 @@ module _ (m : Meaning) (cs : List ℕ) (n : Block) (s l : ℕ) (es : List (ℕ �
       right_is : get_or hs 1 0 ≡ get_or gs (2 * l + 1) 0
       right_is = place gs hs (2 * f.part.level) 1 (2 * l + 1) taken (omega (arith, part_level))
 
-      pub linkable : 2 * suc l ≤ length gs → Room (m, cs) gs (suc l) → Linkable q₂ hs
-      linkable enough r =
+      pub linkable : 2 * suc l ≤ length gs → Room (m, cs) gs (suc l) → Shaped (m, cs) → Linkable q₂ hs
+      linkable enough r h =
           let z₁ = same_by (opens S.mid) (m, cs) q₁ F.state in
           let z₂ = same_by (rem_moves gs s l S.work) q₁ q₂ M.state in
-          let w = rem_writes gs s l S.lo S.hi S.work S.span S.low S.high (λ h. omega (arith, S.enough)) in
+          let w = rem_writes gs s l S.lo S.hi S.work S.span S.low S.high (λ z. omega (arith, S.enough)) in
           let free = still_free gs (2 * suc l) r.free in
           let R = part_ready in
           let K = remove_keeps gs s (2 * suc l) l S.work q₁ R.others R.stored R.counted free (omega arith) M.laid in
-          let far : (j : ℕ) → 2 * l ≤ j → j < 2 * suc l → get_or q₂.1 (get_or gs j 0) 0 ≡ 0 = λ j low h.
-          ap (λ (x : State). get_or x.1 (get_or gs j 0) 0) M.state ∙ K.kept.free (get_or gs j 0) (λ i lt e. free.apart i j (omega (arith, low)) h (sym e)) (free.count j h) in
+          let far : (j : ℕ) → 2 * l ≤ j → j < 2 * suc l → get_or q₂.1 (get_or gs j 0) 0 ≡ 0 = λ j low under.
+          ap (λ (x : State). get_or x.1 (get_or gs j 0) 0) M.state ∙ K.kept.free (get_or gs j 0) (λ i lt e. free.apart i j (omega (arith, low)) under (sym e)) (free.count j under) in
           let a = free.on (2 * l) (omega arith) in
           let b = free.on (2 * l + 1) (omega arith) in
           record {
-            wide = omega (arith, p.wide.0, z₁.width, z₂.width);
+            wide = omega (arith, h.wide.0, z₁.width, z₂.width);
             left = omega (arith, r.left, z₁.left, z₂.left, w, opens_writes S.mid);
             two = omega (arith, ap length taken ∙ length-drop (2 * f.part.level) gs, part_level, enough);
             places = record {
@@ -169,7 +167,7 @@ module _ (m : Meaning) (cs : List ℕ) (n : Block) (s l : ℕ) (es : List (ℕ �
               right_in = omega (arith, b.1, z₂.counts, right_is);
               right_free = ap (λ (x : ℕ). get_or q₂.1 x 0) right_is ∙ far (2 * l + 1) (omega arith) (omega arith);
               apart = λ e. free.apart (2 * l) (2 * l + 1) (omega arith) (omega arith) (sym left_is ∙ e ∙ right_is);
-              few = omega (arith, p.size, z₁.counts, z₂.counts);
+              few = omega (arith, h.sized, h.lawful.few, z₁.counts, z₂.counts);
             };
           }
 

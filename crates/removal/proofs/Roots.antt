@@ -191,8 +191,6 @@ module _ (m : Meaning) (cs gs : List ℕ) (root : Root) (s : ℕ) (r : model.Tre
         others = h;
         counted = counted₁;
         modest = λ b. omega (arith, p.modest b, low);
-        size = omega (arith, p.few, same₁.counts);
-        wide = (omega (arith, p.wide.0, same₁.width), omega (arith, p.wide.1, same₁.width));
       }
 
       pub top_able : Able q₁ n s
@@ -307,4 +305,4 @@ pub good_remove : (m : Meaning) (cs gs : List ℕ) (root : Root) (s : ℕ) → E
 good_remove m cs gs root s E G sp m' cs' r e D =
     let t : model.Tree = tree_at (current_at m) root in
     let hi = (rooted m cs gs root s E G sp).height in
-    good_after (takes s) t m cs m' cs' r e D (grow_fit (blocks_of m) (takes s) (free_blocks cs) t sp (frees_inside m cs E.counting) (omega (arith, hi, G.enough)) E.good.fit)
+    good_after (takes s) t m cs m' cs' r e D (grow_fit (blocks_of m) (takes s) (free_blocks cs) t sp (frees_inside m cs G.shape) (omega (arith, hi, G.enough)) E.good.fit)

@@ -3,7 +3,6 @@ use Rattle.std.specs.Prelude.{◌≡◌, ℕ, suc, ◌+◌, ◌*◌, ◌<◌, �
 use Rattle.tree.specs.Node.{Every}
 use Rattle.tree.specs.Tree.{Pay, Tree, Span}
 use Rattle.page.specs.Block.{Block, block_at}
-use Rattle.page.specs.Io.{Wide}
 use Rattle.page.specs.View.{view, entries}
 use Rattle.page.specs.declared.page.Page.{Page}
 use Rattle.counts.specs.Counts.{occ, Counted}
@@ -31,8 +30,6 @@ pub record Ready (q : State) (n : Block) (s l : ℕ) (es : List (ℕ × Pay ℕ 
   pub others : ℕ → ℕ
   pub counted : Counted (block_at q.0) q.1 (λ b. occ b (kids l es) + others b)
   pub modest : (b : ℕ) → others b + 32 * l ≤ 2000
-  pub size : length q.1 ≤ 4096
-  pub wide : Wide q.0
 
 pub record Able (q : State) (n : Block) (s : ℕ) : Type 0 where
   pub l : ℕ

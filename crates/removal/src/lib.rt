@@ -7,7 +7,7 @@ ghost use Rattle.tree.specs.Node.{map_e};
 ghost use Rattle.tree.specs.Tree.{Pay, Tree};
 ghost use Rattle.page.specs.View.{view, entries};
 ghost use Rattle.counts.specs.Counts.{free_blocks};
-ghost use Rattle.counts.specs.Moves.{run};
+ghost use Rattle.counts.specs.Moves.{run, Shaped};
 ghost use Rattle.model.specs.TreeBlocks.{Change.takes, changed_on, tree_at, root_of, Good};
 ghost use Rattle.edit.specs.Plan.{placed, links};
 ghost use Rattle.edit.specs.Able.{Open};
@@ -31,7 +31,8 @@ fn fill_right<D: Device>(store: &mut Store<D>, page: &Page, i: usize, speed: u32
     requires able { AbleIndex store.old (view page.now) speed }
     requires at { At (view page.now) speed i }
     requires more { suc i < length page.now.entries.items }
-    ensures { (l : ℕ) (es : List (ℕ × Tree ℕ ℕ l)) → Ready store.old (view page.now) speed (suc l) es → Filling store.old store.new speed l es result }
+    ensures filling { (l : ℕ) (es : List (ℕ × Tree ℕ ℕ l)) → Ready store.old (view page.now) speed (suc l) es → Filling store.old store.new speed l es result }
+    ensures shape { Shaped store.old }
 {
     let child = store.open(page.entries[i].value);
     if child.entries.len() != FEWEST {
@@ -61,7 +62,8 @@ fn fill_left<D: Device>(store: &mut Store<D>, page: &Page, i: usize, speed: u32)
     requires able { AbleIndex store.old (view page.now) speed }
     requires at { At (view page.now) speed (suc i) }
     requires last { length page.now.entries.items ≡ suc (suc i) }
-    ensures { (l : ℕ) (es : List (ℕ × Tree ℕ ℕ l)) → Ready store.old (view page.now) speed (suc l) es → Filling store.old store.new speed l es result }
+    ensures filling { (l : ℕ) (es : List (ℕ × Tree ℕ ℕ l)) → Ready store.old (view page.now) speed (suc l) es → Filling store.old store.new speed l es result }
+    ensures shape { Shaped store.old }
 {
     let last = page.entries[i + 1].value;
     let child = store.read_page(last);
@@ -94,7 +96,8 @@ fn fill_left<D: Device>(store: &mut Store<D>, page: &Page, i: usize, speed: u32)
 fn fill<D: Device>(store: &mut Store<D>, page: &Page, i: usize, speed: u32) -> Filled
     requires able { AbleIndex store.old (view page.now) speed }
     requires at { At (view page.now) speed i }
-    ensures { (l : ℕ) (es : List (ℕ × Tree ℕ ℕ l)) → Ready store.old (view page.now) speed (suc l) es → Filling store.old store.new speed l es result }
+    ensures filling { (l : ℕ) (es : List (ℕ × Tree ℕ ℕ l)) → Ready store.old (view page.now) speed (suc l) es → Filling store.old store.new speed l es result }
+    ensures shape { Shaped store.old }
 {
     if i + 1 < page.entries.len() {
         fill_right(store, page, i, speed)

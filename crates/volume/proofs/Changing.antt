@@ -1,5 +1,5 @@
 -- A changed tree takes its place: the call's effect, and a sound volume again.
-use Rattle.std.proofs.Common.{◌≡◌, ℕ, ◌+◌, ◌<◌, ◌≤◌, T, List, [], ◌∷◌, length, get_or, set, ltb, Some, None, sym, refl, ap, ◌∙◌, subst, ap₂, arith, length-set}
+use Rattle.std.proofs.Common.{◌≡◌, ℕ, ◌+◌, ◌<◌, T, List, [], ◌∷◌, length, get_or, set, ltb, Some, None, sym, refl, ap, ◌∙◌, subst, ap₂, arith, length-set}
 use Rattle.device.specs.Meaning.{Content, Meaning, blocks_of, current_at}
 use Rattle.device.specs.Cuts.{Op, Op.write, Op.flush, replay}
 use Rattle.device.proofs.Choices.{blocks_replay, width_replay}
@@ -21,7 +21,7 @@ use Rattle.model.proofs.Frames.{each_map, good_at, good_set, good_same, OnPlace,
 use Rattle.model.proofs.Grants.{sizes_parts}
 use Rattle.model.proofs.Histories.{keeps_free}
 use Rattle.model.proofs.Reach.{use_is_reach, free_by_counts}
-use Rattle.edit.specs.Edited.{Counting, Editable, WritesFree, given_up, Edited}
+use Rattle.edit.specs.Edited.{Editable, WritesFree, given_up, Edited}
 use Rattle.volume.specs.Sealing.{root_in}
 use Rattle.volume.specs.Kept.{Kept, lacking_in}
 use Rattle.volume.proofs.Places.{others, roots_split, roots_placed, few_rootings}
@@ -45,11 +45,8 @@ module _ (t : Tables) (m : Meaning) (cs : List ℕ) (S : Kept t (m, cs)) where
       let z : occ b (root_in (place t.working n)) ≡ 0 = ap (λ o. occ b (root_in o)) none in
       omega (arith, q, z)
 
-  pub counting : Counting (m, cs)
-  counting = let p = sizes_parts (blocks_of m) m.width S.sized in record { wide = (p.2, p.3); sized = S.long; few = subst (λ k. k ≤ 4096) (sym S.long) p.1 }
-
   pub wide : Wide m
-  wide = counting.wide
+  wide = let p = sizes_parts (blocks_of m) m.width S.sized in (p.2, p.3)
 
   unused : (b : ℕ) → get_or cs b 0 ≡ 0 → T (elem b (used (shape t m))) → ⊥
   unused b e h = let q : 0 < get_or cs b 0 = (alive_is_reached (block_at m) cs (rootings t) S.counted b).1 ((use_is_reach t m S.standing b).1 h) in omega (arith, q, e)
@@ -74,7 +71,6 @@ module _ (t : Tables) (m : Meaning) (cs : List ℕ) (S : Kept t (m, cs)) where
 
     pub editable : n < 24 → Editable (m, cs) r
     editable h = record {
-      counting = counting;
       good = good_here;
       others = others t n;
       counted = recount (rootings t) (λ b. one r.1 b + others t n b) (split_here h) S.counted;

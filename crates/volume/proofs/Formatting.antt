@@ -4,7 +4,6 @@ use lib.ListN.{length-replicate}
 use Rattle.device.specs.Meaning.{Meaning, blocks_of}
 use Rattle.model.specs.Plain.{blank}
 use Rattle.model.specs.World.{Formatted, bare}
-use Rattle.model.proofs.Grants.{sizes_parts}
 use Rattle.mount.proofs.Counting.{counting_none, counted}
 use Rattle.volume.specs.Kept.{Kept}
 
@@ -15,6 +14,6 @@ kept_bare m cs f e = record {
   committed = refl;
   generation = omega arith;
   standing = (tt, tt);
-  counted = counted m cs (1, blank) (counting_none m cs (sizes_parts (blocks_of m) m.width f.0).1 e);
+  counted = counted m cs (1, blank) (counting_none m cs e);
   long = ap length e ∙ length-replicate (blocks_of m) 0;
 }

@@ -17,8 +17,8 @@ use Rattle.model.specs.Reach.{rootings, Standing}
 abbrev pub tables : List (Option Root) → List (Option Root) → ℕ → Tables
 tables working committed generation = record { working = map root_of working; committed = map root_of committed; generation = generation }
 
--- The volume fits the device and has 24 places in each table; every tree of a place keeps the layout and stands on the device;
--- and each block's count is the number of its parents, the places among them.
+-- The volume fits the device, has 24 places in each table and a generation of 28 bits; every tree of a place keeps the layout and stands
+-- on the device; and each block has a count, which is the number of its parents, the places among them.
 pub record Kept (t : Tables) (q : State) : Type 0 where
   pub sized : sizes (blocks_of q.0) q.0.width ≡ true
   pub working : length t.working ≡ 24
@@ -28,8 +28,8 @@ pub record Kept (t : Tables) (q : State) : Type 0 where
   pub counted : Counted (block_at q.0) q.1 (rootings t)
   pub long : length q.1 ≡ blocks_of q.0
 
--- A call of the volume (t, m): refused as is due, and then nothing changes, or accepted with the answer x and its effect,
--- by device calls that lead from m to m'.
+-- The call q of a volume, from v to w: refused as is due, and then nothing changes, or accepted with the answer x and its effect,
+-- by device calls that lead from the one device to the other.
 pub record Called {X : Type 0} (q : Ask) (x : X) (v : Tables × Meaning) (r : Result X Refusal) (w : Tables × Meaning) : Type 0 where
   pub os : List Op
   pub trace : w.1 ≡ replay os v.1

@@ -43,7 +43,7 @@ pub put_in-made-requires : goal.put_in-made-requires
 put_in-made-requires g t c κs within =
     let C = covers _ _ _ c.args.page.now _ _ _ _ c.if-page-eq0.false c.requires.able c.covering-i.ensures.within c.covering-i.ensures.low c.covering-i.ensures.high c.deref.ensures.0 c.index-deref-i.is in
     let R = part_any _ _ _ _ _ _ _ C (view c.open-child.result) (view c.part_for-part.result) c.open-child.new.self
-    (record { there = c.open-child.ensures.page; level = c.part_for-part.ensures.level; these = c.part_for-part.ensures.these; state = c.open-child.ensures.state }) c.requires.able in
+    (record { there = c.open-child.ensures.page; level = c.part_for-part.ensures.level; these = c.part_for-part.ensures.these; state = c.open-child.ensures.state; shape = c.open-child.ensures.shape }) c.requires.able in
     (omega (arith, c.decreases, R.1), (within, (R.0, omega (arith, R.1, c.requires.enough))))
 
 module _ (g : Over) (t : ℕ) (c : After-put_in-made g t) where
@@ -51,7 +51,7 @@ module _ (g : Over) (t : ℕ) (c : After-put_in-made g t) where
   C = covers _ _ _ c.args.page.now _ _ _ _ c.if-page-eq0.false c.requires.able c.covering-i.ensures.within c.covering-i.ensures.low c.covering-i.ensures.high c.deref.ensures.0 c.index-deref-i.is
 
   P : Parts c.args.store.now c.open-child.new.self c.index-deref-i.result.value c.args.row.speed (view c.open-child.result) (view c.part_for-part.result)
-  P = record { there = c.open-child.ensures.page; level = c.part_for-part.ensures.level; these = c.part_for-part.ensures.these; state = c.open-child.ensures.state }
+  P = record { there = c.open-child.ensures.page; level = c.part_for-part.ensures.level; these = c.part_for-part.ensures.these; state = c.open-child.ensures.state; shape = c.open-child.ensures.shape }
 
   link : Linkable c.put_in-made.new.store c.put_in-made.new.grant (view c.args.page.now) (view c.open-child.result) (view c.put_in-made.result)
   link = linkable _ _ _ _ _ _ _ C _ _ _ P _ _ _ c.put_in-made.ensures.made _ c.put_in-made.ensures.grant c.requires.enough c.requires.able

@@ -30,7 +30,7 @@ module _ (g : Over) (c : After-put_in-made g) where
 
   -- all blocks of the grant but one are taken
   but_one : drop 1 c.put_in-made.new.grant ≡ []
-  but_one = all_taken (2 * c.new-above.result.level) c.args.grant _ (omega (arith, whole _ _ _ _ c.requires.editable.counting c.requires.granted, c.new-above.ensures.level)) c.put_in-made.ensures.grant
+  but_one = all_taken (2 * c.new-above.result.level) c.args.grant _ (omega (arith, whole _ _ _ _ c.requires.granted, c.new-above.ensures.level)) c.put_in-made.ensures.grant
 
 pub end-requires : goal.end-requires
 end-requires g c = c.give_back.ensures ∙ but_one g (goal.at.end-requires g c).After-put_in-made

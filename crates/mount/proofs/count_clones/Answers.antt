@@ -3,7 +3,6 @@ use Rattle.device.specs.Meaning.{blocks_of}
 use Rattle.page.specs.Slot.{Table, every, rooted}
 use Rattle.page.specs.View.{slot_of}
 use Rattle.counts.specs.Moves.{State}
-use Rattle.model.proofs.Grants.{sizes_parts}
 use Rattle.mount.specs.Counting.{Counting}
 use Rattle.mount.proofs.Counting.{counting_none}
 use Rattle.mount.proofs.Slots.{slot_used, used_rooted}
@@ -16,4 +15,4 @@ walk_clones-requires-clause-rooted g c =
     (used_rooted c.args.store.now.0 (slot_of c.in_ok-slot.slot) (slot_used c.args.store.now.0 c.read_table.result c.in_ok-slot.slot _ c.read_table.ensures.answer c.in_ok-slot.ensures.value))
 
 pub walk_clones-requires-clause-none : goal.walk_clones-requires-clause-none
-walk_clones-requires-clause-none g c = subst (λ (q : State). Counting q []) (sym c.read_table.ensures.kept) (counting_none c.args.store.now.0 c.args.store.now.1 (sizes_parts (blocks_of c.args.store.now.0) c.args.store.now.0.width c.requires.fit).1 c.requires.none)
+walk_clones-requires-clause-none g c = subst (λ (q : State). Counting q []) (sym c.read_table.ensures.kept) (counting_none c.args.store.now.0 c.args.store.now.1 c.requires.none)

@@ -1,6 +1,7 @@
 use Rattle.std.proofs.Common.{◌≡◌, ℕ, suc, ◌+◌, ◌*◌, ◌<◌, drop, sym, ap, ◌∙◌, subst, arith, drop-drop}
 use Rattle.page.specs.View.{view}
 use Rattle.page.proofs.Pages.{entries_length}
+use Rattle.counts.specs.Moves.{Shaped}
 use Rattle.removal.specs.Able.{AbleIndex, Room, Whole, Filling, Made}
 use Rattle.removal.proofs.Fillings.{two}
 use Rattle.removal.proofs.Linking.{parts_laid}
@@ -31,7 +32,7 @@ module _ (g : Over) (t : ℕ) (c : After-fill-filled g t) where
   A = index_able _ _ c.args.grant.now _ _ above c.requires.able
 
   F : Filling c.args.store.now c.fill-filled.new.store c.args.speed A.l A.es c.fill-filled.result
-  F = c.fill-filled.ensures A.l A.es A.ready
+  F = c.fill-filled.ensures.filling A.l A.es A.ready
 
   level : c.args.page.now.level ≡ suc A.l
   level = level_is _ _ c.args.grant.now _ _ _ _ A.ready
@@ -59,7 +60,7 @@ remove_in-made-requires g t c κs inside =
 
 module _ (g : Over) (t : ℕ) (c : After-remove_in-made g t) (a : AbleIndex c.args.store.now (view c.args.page.now) c.args.speed)
     (f : Filling c.args.store.now c.fill-filled.new.store c.args.speed a.l a.es c.fill-filled.result)
-    (room : Room c.args.store.now c.args.grant.now (suc a.l)) (level : c.args.page.now.level ≡ suc a.l) where
+    (room : Room c.args.store.now c.args.grant.now (suc a.l)) (level : c.args.page.now.level ≡ suc a.l) (shape : Shaped c.args.store.now) where
   M : Made c.fill-filled.new.store c.remove_in-made.new.store c.args.grant.now c.args.speed a.l f.split.work (view c.remove_in-made.result)
   M = c.remove_in-made.ensures.made a.l f.split.work (part_ready _ _ _ _ _ _ a.ready _ _ f)
 
@@ -67,7 +68,7 @@ module _ (g : Over) (t : ℕ) (c : After-remove_in-made g t) (a : AbleIndex c.ar
   flat = made_level _ _ _ _ _ _ a.ready _ _ f _ _ _ M
 
   link : Linkable c.remove_in-made.new.store c.remove_in-made.new.grant
-  link = linkable _ _ _ _ _ _ a.ready _ _ f _ _ _ M _ c.remove_in-made.ensures.grant (omega (arith, c.requires.enough, level)) room
+  link = linkable _ _ _ _ _ _ a.ready _ _ f _ _ _ M _ c.remove_in-made.ensures.grant (omega (arith, c.requires.enough, level)) room shape
 
   kept : Whole c.remove_in-made.result.level c.fill-filled.result.part c.fill-filled.result.neighbour
   kept = subst (λ (k : ℕ). Whole k c.fill-filled.result.part c.fill-filled.result.neighbour) (sym flat) f.whole
@@ -79,26 +80,26 @@ pub link_parts-requires : goal.link_parts-requires
 link_parts-requires g t c =
     let d = (goal.at.link_parts-requires g t c).After-fill-filled in
     let m = (goal.at.link_parts-requires g t c).After-remove_in-made in
-    let L = link g t m (A g t d) (F g t d) (room g t d) (level g t d) in
+    let L = link g t m (A g t d) (F g t d) (room g t d) (level g t d) c.fill-filled.ensures.shape in
     record {
       places = L.places;
       two = L.two;
       left = L.left;
-      level = low g t m (A g t d) (F g t d) (room g t d) (level g t d);
-      whole = kept g t m (A g t d) (F g t d) (room g t d) (level g t d);
-      within = omega (arith, within _ _ _ _ _ _ (A g t d).ready _ _ (F g t d) _ _ _ (M g t m (A g t d) (F g t d) (room g t d) (level g t d)), entries_length c.args.page.now);
+      level = low g t m (A g t d) (F g t d) (room g t d) (level g t d) c.fill-filled.ensures.shape;
+      whole = kept g t m (A g t d) (F g t d) (room g t d) (level g t d) c.fill-filled.ensures.shape;
+      within = omega (arith, within _ _ _ _ _ _ (A g t d).ready _ _ (F g t d) _ _ _ (M g t m (A g t d) (F g t d) (room g t d) (level g t d) c.fill-filled.ensures.shape), entries_length c.args.page.now);
     }
 
 pub returns-clause-made : goal.returns-clause-made
 returns-clause-made g t c =
     let d = (goal.at.returns-clause-made g t c).After-fill-filled in
     let m = (goal.at.returns-clause-made g t c).After-remove_in-made in
-    let L = link g t m (A g t d) (F g t d) (room g t d) (level g t d) in
+    let L = link g t m (A g t d) (F g t d) (room g t d) (level g t d) c.fill-filled.ensures.shape in
     index_made _ _ c.args.grant.now _ _ c.if-page-eq0.false c.link_parts.new.store (view c.link_parts.result) (λ l es p.
-    let f = c.fill-filled.ensures l es p in
+    let f = c.fill-filled.ensures.filling l es p in
     up _ _ _ _ _ _ p _ _ f _ _ _ (c.remove_in-made.ensures.made l f.split.work (part_ready _ _ _ _ _ _ p _ _ f)) _ c.remove_in-made.ensures.grant c.link_parts.new.store (view c.link_parts.result)
     c.link_parts.ensures.level c.link_parts.ensures.these c.link_parts.ensures.state
-    (parts_laid c.args.page.now c.fill-filled.result c.remove_in-made.result _ _ _ L.wide (low g t m (A g t d) (F g t d) (room g t d) (level g t d)) (kept g t m (A g t d) (F g t d) (room g t d) (level g t d))))
+    (parts_laid c.args.page.now c.fill-filled.result c.remove_in-made.result _ _ _ L.wide (low g t m (A g t d) (F g t d) (room g t d) (level g t d) c.fill-filled.ensures.shape) (kept g t m (A g t d) (F g t d) (room g t d) (level g t d) c.fill-filled.ensures.shape)))
 
 pub returns-clause-grant : goal.returns-clause-grant
 returns-clause-grant g t c =

@@ -29,12 +29,12 @@ module _ (g : Over) (c : After-read_page-child g) where
 pub open_page-requires-clause-owned : goal.open_page-requires-clause-owned
 open_page-requires-clause-owned g c = last_held g (goal.at.open_page-requires-clause-owned g c).After-read_page-child
 
-pub returns-then-len-ne-FEWEST : goal.returns-then-len-ne-FEWEST
-returns-then-len-ne-FEWEST g c = λ l es p.
+pub returns-then-len-ne-FEWEST-clause-filling : goal.returns-then-len-ne-FEWEST-clause-filling
+returns-then-len-ne-FEWEST-clause-filling g c = λ l es p.
     let b : ℕ = (get_or c.deref.result.now (c.args.i + 1) c.index-deref-i.result).value in
     fill_apart _ _ _ _ l es p (c.args.i + 1) _ b (subst (At (view c.args.page.now) c.args.speed) (sym (add-one c.args.i)) c.requires.at)
     (entry_read c.args.page.now (c.args.i + 1) (c.args.i + 1) _ _ refl (omega (arith, c.requires.last)) c.deref.ensures.0)
-    c.read_page-child.result c.read_page-child.ensures.page (λ e. c.if-len-ne-FEWEST.true (c.len.ensures.value ∙ e)) c.open_page.new.self (c.open_page.ensures ∙ ap (step (opening b)) c.read_page-child.ensures.kept)
+    c.read_page-child.result c.read_page-child.ensures.page (λ e. c.if-len-ne-FEWEST.true (c.len.ensures.value ∙ e)) c.open_page.new.self (c.open_page.ensures.state ∙ ap (step (opening b)) c.read_page-child.ensures.kept)
 
 pub open-before-requires : goal.open-before-requires
 open-before-requires g c =
@@ -76,13 +76,13 @@ module _ (g : Over) (c : After-open-before g) where
   last : {X : Type 0} (es : List (ℕ × X)) → length (entries c.args.page.now) ≡ length es → length es ≡ suc (suc c.args.i)
   last es n = omega (arith, c.requires.last, entries_length c.args.page.now, n)
 
-pub returns-then-len-eq-FEWEST : goal.returns-then-len-eq-FEWEST
-returns-then-len-eq-FEWEST g c = λ l es p.
-    let o = (goal.at.returns-then-len-eq-FEWEST g c).After-open-before in
+pub returns-then-len-eq-FEWEST-clause-filling : goal.returns-then-len-eq-FEWEST-clause-filling
+returns-then-len-eq-FEWEST-clause-filling g c = λ l es p.
+    let o = (goal.at.returns-then-len-eq-FEWEST-clause-filling g c).After-open-before in
     let n = last g o es (len _ _ _ _ l es p) in
     let seven = sym c.len-len.ensures.value ∙ c.if-len-eq-FEWEST.true in
-    fill_left_merged _ _ _ _ l es p c.args.i _ _ _ _ (omega (arith, n)) (e g o) (next g (goal.at.returns-then-len-eq-FEWEST g c).After-read_page-child) c.open-before.result c.read_page-child.result (before_there g o) c.read_page-child.ensures.page
-    c.open-before.new.self c.open_page-2.new.self (first g o) c.open_page-2.ensures c.requires.at n (short g o) seven
+    fill_left_merged _ _ _ _ l es p c.args.i _ _ _ _ (omega (arith, n)) (e g o) (next g (goal.at.returns-then-len-eq-FEWEST-clause-filling g c).After-read_page-child) c.open-before.result c.read_page-child.result (before_there g o) c.read_page-child.ensures.page
+    c.open-before.new.self c.open_page-2.new.self (first g o) c.open_page-2.ensures.state c.requires.at n (short g o) seven
     c.spliced.result c.spliced.ensures.level (c.spliced.ensures.these ∙ at_end (entries c.open-before.result) _ _ (entries_length c.open-before.result ∙ seven) (ap (map pair) c.deref-then-len-eq-FEWEST.ensures.0))
 
 pub bounds-deref-len : goal.bounds-deref-len
@@ -91,12 +91,12 @@ bounds-deref-len g c = omega (arith, ap length c.deref-3.ensures.0, c.len-len.en
 pub spliced-requires-2-clause-room : goal.spliced-requires-2-clause-room
 spliced-requires-2-clause-room g c = omega (arith, short g (goal.at.spliced-requires-2-clause-room g c).After-open-before)
 
-pub returns : goal.returns
-returns g c = λ l es p.
-    let o = (goal.at.returns g c).After-open-before in
+pub returns-clause-filling : goal.returns-clause-filling
+returns-clause-filling g c = λ l es p.
+    let o = (goal.at.returns-clause-filling g c).After-open-before in
     let n = last g o es (len _ _ _ _ l es p) in
-    fill_left_moved _ _ _ _ l es p c.args.i _ _ _ _ (omega (arith, n)) (e g o) (next g (goal.at.returns g c).After-read_page-child) c.open-before.result c.read_page-child.result (before_there g o) c.read_page-child.ensures.page
-    c.open-before.new.self c.open_page-2.new.self (first g o) c.open_page-2.ensures c.requires.at n (short g o) (λ e. c.if-len-eq-FEWEST.false (c.len-len.ensures.value ∙ e))
+    fill_left_moved _ _ _ _ l es p c.args.i _ _ _ _ (omega (arith, n)) (e g o) (next g (goal.at.returns-clause-filling g c).After-read_page-child) c.open-before.result c.read_page-child.result (before_there g o) c.read_page-child.ensures.page
+    c.open-before.new.self c.open_page-2.new.self (first g o) c.open_page-2.ensures.state c.requires.at n (short g o) (λ e. c.if-len-eq-FEWEST.false (c.len-len.ensures.value ∙ e))
     c.spliced-2.result c.part.result c.spliced-2.ensures.level
     (c.spliced-2.ensures.these ∙ at_start (entries c.read_page-child.result) _ _ (last_is c.open-before.result c.len-len.result _ _ (omega (arith, c.len-len.ensures.value, long g o)) c.len-len.ensures.value c.deref-3.ensures.0 c.index-deref-len.is))
     c.part.ensures.level (c.part.ensures.these ∙ but_last c.open-before.result _ c.len-len.ensures.value)

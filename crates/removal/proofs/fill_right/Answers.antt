@@ -11,8 +11,8 @@ use Rattle.removal.proofs.fill_right.Goals as goal
 pub open-child-requires : goal.open-child-requires
 open-child-requires g c = owned_at _ _ _ _ c.requires.able c.args.i _ _ (omega (arith, c.requires.more, entries_length c.args.page.now)) (entry_read c.args.page.now c.args.i c.args.i _ _ refl (omega (arith, c.requires.more)) c.deref.ensures.0)
 
-pub returns-then-len-ne-FEWEST : goal.returns-then-len-ne-FEWEST
-returns-then-len-ne-FEWEST g c = λ l es p.
+pub returns-then-len-ne-FEWEST-clause-filling : goal.returns-then-len-ne-FEWEST-clause-filling
+returns-then-len-ne-FEWEST-clause-filling g c = λ l es p.
     fill_apart _ _ _ _ l es p c.args.i _ _ c.requires.at (entry_read c.args.page.now c.args.i c.args.i _ _ refl (omega (arith, c.requires.more)) c.deref.ensures.0) c.open-child.result c.open-child.ensures.page (λ e. c.if-len-ne-FEWEST.true (c.len.ensures.value ∙ e)) c.open-child.new.self c.open-child.ensures.state
 
 pub open-after-requires : goal.open-after-requires
@@ -40,9 +40,9 @@ module _ (g : Over) (c : After-open-after g) where
   more : {X : Type 0} (es : List (ℕ × X)) → length (entries c.args.page.now) ≡ length es → suc c.args.i < length es
   more es n = omega (arith, c.requires.more, entries_length c.args.page.now, n)
 
-pub returns-then-len-eq-FEWEST : goal.returns-then-len-eq-FEWEST
-returns-then-len-eq-FEWEST g c = λ l es p.
-    let d = (goal.at.returns-then-len-eq-FEWEST g c).After-open-after in
+pub returns-then-len-eq-FEWEST-clause-filling : goal.returns-then-len-eq-FEWEST-clause-filling
+returns-then-len-eq-FEWEST-clause-filling g c = λ l es p.
+    let d = (goal.at.returns-then-len-eq-FEWEST-clause-filling g c).After-open-after in
     fill_right_merged _ _ _ _ l es p c.args.i _ _ _ _ (more g d es (len _ _ _ _ l es p)) (e g d) (e₂ g d) c.open-child.result c.open-after.result c.open-child.ensures.page (there g d)
     c.open-child.new.self c.open-after.new.self c.open-child.ensures.state c.open-after.ensures.state c.requires.at (short g d) (omega (arith, c.if-len-eq-FEWEST.true, c.len-2.ensures.value))
     c.spliced.result c.spliced.ensures.level (c.spliced.ensures.these ∙ at_end (entries c.open-child.result) _ _ (entries_length c.open-child.result ∙ short g d) (ap (map pair) c.deref-then-len-eq-FEWEST.ensures.0))
@@ -55,9 +55,9 @@ part-requires g c =
     let d = (goal.at.part-requires g c).After-open-after in
     (omega (arith, c.len-3.ensures.value, long g d), omega (arith, c.len-3.ensures.value))
 
-pub returns : goal.returns
-returns g c = λ l es p.
-    let d = (goal.at.returns g c).After-open-after in
+pub returns-clause-filling : goal.returns-clause-filling
+returns-clause-filling g c = λ l es p.
+    let d = (goal.at.returns-clause-filling g c).After-open-after in
     fill_right_moved _ _ _ _ l es p c.args.i _ _ _ _ (more g d es (len _ _ _ _ l es p)) (e g d) (e₂ g d) c.open-child.result c.open-after.result c.open-child.ensures.page (there g d)
     c.open-child.new.self c.open-after.new.self c.open-child.ensures.state c.open-after.ensures.state c.requires.at (short g d) (λ n. c.if-len-eq-FEWEST.false (c.len-2.ensures.value ∙ n))
     c.spliced-2.result c.part.result c.spliced-2.ensures.level

@@ -26,7 +26,7 @@ pub remove_in-made-requires-clause-enough : goal.remove_in-made-requires-clause-
 remove_in-made-requires-clause-enough g c =
     let p = rooted _ _ _ _ _ c.requires.editable c.requires.granted c.requires.speed in
     let level = top_level _ _ _ _ _ _ _ p _ c.open-page.ensures.state (view c.open-page.result) c.open-page.ensures.page in
-    omega (arith, level, p.height, whole _ _ _ _ c.requires.editable.counting c.requires.granted)
+    omega (arith, level, p.height, whole _ _ _ _ c.requires.granted)
 
 module _ (g : Over) (c : After-remove_in-made g) where
   abbrev t : Tree
@@ -66,7 +66,7 @@ returns-then-len-eq1 g c =
 pub take-block-requires : goal.take-block-requires
 take-block-requires g c =
     let d = (goal.at.take-block-requires g c).After-remove_in-made in
-    omega (arith, ap length c.remove_in-made.ensures.grant ∙ length-drop (2 * c.open-page.result.level) c.args.grant, level g d, (p g d).height, whole _ _ _ _ c.requires.editable.counting c.requires.granted)
+    omega (arith, ap length c.remove_in-made.ensures.grant ∙ length-drop (2 * c.open-page.result.level) c.args.grant, level g d, (p g d).height, whole _ _ _ _ c.requires.granted)
 
 module _ (g : Over) (c : After-take-block g) where
   more : 0 < c.remove_in-made.result.level → length (entries c.remove_in-made.result) ≡ 1 → ⊥

@@ -24,8 +24,7 @@ pub visit-requires-clause-ready : goal.visit-requires-clause-ready
 visit-requires-clause-ready g c =
     let t : Table = map root_of c.args.slot.now.places in
     let i : ℕ = c.loop-clone.clone in
-    let r : Ready (c.args.store.now.0, c.loop-clone.store.1) = record { roots = roots_of (take i t); counting = c.loop-clone.invariant.counting; few = omega (arith, roots_few i t, c.loop-clone-test.true, c.args.slot.now.fits.1) } in
-    subst (λ x. Ready (x, c.loop-clone.store.1)) (sym c.loop-clone.invariant.kept) r
+    record { roots = roots_of (take i t); counting = c.loop-clone.invariant.counting; few = omega (arith, roots_few i t, c.loop-clone-test.true, c.args.slot.now.fits.1) }
 
 pub returns-in_err-visit-clause-answer : goal.returns-in_err-visit-clause-answer
 returns-in_err-visit-clause-answer g c =
@@ -50,11 +49,11 @@ loop-clone-preserved g c =
     let k : Ok tt ≡ place_walk m i p = c.in_ok-visit.ensures.answer ∙ ap (λ x. place_walk x i p) c.loop-clone.invariant.kept in
     let cs = c.loop-clone.store.1 in
     let e = c.in_ok-visit.ensures.counts ∙ ap (λ x. count_at x p cs) c.loop-clone.invariant.kept in
-    let ready : Ready (m, cs) = record { roots = roots_of (take i t); counting = c.loop-clone.invariant.counting; few = omega (arith, roots_few i t, lt, c.args.slot.now.fits.1) } in
+    let ready : Ready (m, cs) = record { roots = roots_of (take i t); counting = subst (λ x. Counting (x, cs) (roots_of (take i t))) c.loop-clone.invariant.kept c.loop-clone.invariant.counting; few = omega (arith, roots_few i t, lt, c.args.slot.now.fits.1) } in
     let good : rooted (blocks_of m) p ≡ true = every_at (rooted (blocks_of m)) i t (drop (i + 1) t) p c.requires.rooted q in
     let roots : roots_of (take (i + 1) t) ≡ roots_of (take i t) ++ roots_at p = roots_more t i (omega (arith, length-map ps root_of, lt)) ∙ ap (λ x. roots_of (take i t) ++ roots_at x) (get_or-map root_of ps i c.place-item.result None lt) in
     record {
       kept = c.visit.ensures.kept ∙ c.loop-clone.invariant.kept;
       walked = clones_step m i t (drop (i + 1) t) p (table_walk m 0 t) q c.loop-clone.invariant.walked k;
-      counting = subst (Counting (m, c.visit.new.store.1)) (sym roots) (subst (λ xs. Counting (m, xs) (roots_of (take i t) ++ roots_at p)) (sym e) (counting_place m i cs p ready good k));
+      counting = subst (λ x. Counting (x, c.visit.new.store.1) (roots_of (take (i + 1) t))) (sym (c.visit.ensures.kept ∙ c.loop-clone.invariant.kept)) (subst (Counting (m, c.visit.new.store.1)) (sym roots) (subst (λ xs. Counting (m, xs) (roots_of (take i t) ++ roots_at p)) (sym e) (counting_place m i cs p ready good k)));
     }

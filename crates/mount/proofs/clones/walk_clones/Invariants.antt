@@ -13,5 +13,5 @@ invariant-loop-clone g l =
     record {
       kept : l.store.0 ≡ m;
       walked : table_walk m l.clone (drop l.clone t) ≡ table_walk m 0 t;
-      counting : Counting (m, l.store.1) (roots_of (take l.clone t));
+      counting : Counting l.store (roots_of (take l.clone t));
     }

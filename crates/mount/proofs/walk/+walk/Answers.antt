@@ -21,7 +21,7 @@ returns-in_err-page-clause-answer g t c =
 pub meet-first-requires-clause-small : goal.meet-first-requires-clause-small
 meet-first-requires-clause-small g t c =
     let b = c.args.due.block in λ k.
-    subst (λ (q : State). get_or q.1 b 0 < 65535) (sym c.load.ensures.kept) (count_small c.args.store.now.0 c.args.store.now.1 (b ∷ []) b (c.requires.room k))
+    subst (λ (q : State). get_or q.1 b 0 < 65535) (sym c.load.ensures.kept) (count_small c.args.store.now.0 c.args.store.now.1 (b ∷ []) b (omega (arith, c.load.ensures.shape.sized, c.load.ensures.shape.lawful.few)) (c.requires.room k))
 
 -- the block was met: what then holds of the flag and the counts
 met_first : (s q : State) (b : ℕ) (counting first : Bool) → q ≡ s → first ≡ (counting && eqb (get_or q.1 b 0) 0) → first ≡ (counting && eqb (get_or s.1 b 0) 0)
@@ -39,7 +39,7 @@ loop-i-init g t c =
       fault = refl;
       counts = refl;
       room = start_room s.0 d c.in_ok-page.page (map pair c.deref-entry-items.result.now) c.in_ok-page.ensures.answer (ap (map pair) c.deref-entry-items.ensures.0) c.args.counting c.meet-first.result s.1 c.meet-first.new.store.1
-          c.if-due-gt0.true c.requires.within c.requires.room
+          c.if-due-gt0.true (omega (arith, c.requires.within, c.load.ensures.shape.sized)) c.requires.room
           (met_first s c.load.new.store d.block c.args.counting c.meet-first.result c.load.ensures.kept c.meet-first.ensures.first)
           (met_counts s c.load.new.store d.block c.args.counting c.meet-first.new.store.1 c.load.ensures.kept c.meet-first.ensures.counts);
     }
@@ -103,7 +103,7 @@ loop-i-preserved g t c =
       kept = c.walk.ensures.kept ∙ c.loop-i.invariant.kept;
       fault = among_step (child_fault m d) d.high (drop i es) rest es e.speed e.value w.here k c.loop-i.invariant.fault;
       counts = along_step m l e.value e.speed first cs ds _ (drop i es) rest w.here n c.loop-i.invariant.counts;
-      room = room_step m l e.speed (next d.high rest) e.value first cs ds (omega (arith, c.requires.low)) w.within k n (drop i es) rest w.here c.loop-i.invariant.room;
+      room = room_step m l e.speed (next d.high rest) e.value first cs ds (omega (arith, c.requires.low)) (c.walk.ensures.shape.sized ∙ ap blocks_of c.loop-i.invariant.kept) w.within k n (drop i es) rest w.here c.loop-i.invariant.room;
     }
 
 pub returns-after-loop-i-clause-answer : goal.returns-after-loop-i-clause-answer
