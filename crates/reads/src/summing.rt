@@ -2,11 +2,11 @@
 ghost use Rattle.std.specs.Prelude.{◌≡◌};
 ghost use Rattle.device.specs.Meaning.{current_at};
 ghost use Rattle.tree.specs.Node.{map_e};
-ghost use Rattle.tree.specs.Reads.{total};
 ghost use Rattle.page.specs.View.{entries};
 ghost use Rattle.table.specs.Rows.{angle_of};
 ghost use Rattle.model.specs.TreeBlocks.{Each};
 ghost use Rattle.reads.specs.Rows.{rows_on, GoodOn};
+ghost use Rattle.reads.specs.Summary.{summary_of};
 ghost use Rattle.reads.specs.Sound.{Valid, SoundAt, rows_at};
 
 use super::lookup::row_of;
@@ -19,7 +19,7 @@ use table::Summary;
 // The summary of a leaf's rows.
 fn sum_leaf<S: Summary>(leaf: &Page) -> S
     requires { Each Valid (entries leaf.now) }
-    ensures { result ≡ total S.none S.joined S.value_of (map_e angle_of (entries leaf.now)) }
+    ensures { result ≡ summary_of S.summing (map_e angle_of (entries leaf.now)) }
 {
     let mut sum = S::empty();
     for entry in leaf.entries.iter() {
@@ -32,7 +32,7 @@ fn sum_leaf<S: Summary>(leaf: &Page) -> S
 fn sum_block<D: Device, S: Summary>(store: &mut Store<D>, block: u32) -> S
     requires { SoundAt (current_at store.old.0) block }
     ensures kept { store.new ≡ store.old }
-    ensures answer { result ≡ total S.none S.joined S.value_of (map_e angle_of (rows_at (current_at store.old.0) block)) }
+    ensures answer { result ≡ summary_of S.summing (map_e angle_of (rows_at (current_at store.old.0) block)) }
 {
     let page = store.read_page(block);
     if page.level == 0 {
@@ -49,7 +49,7 @@ fn sum_block<D: Device, S: Summary>(store: &mut Store<D>, block: u32) -> S
 pub fn summary<D: Device, S: Summary>(store: &mut Store<D>, root: Root) -> S
     requires { GoodOn store.old.0 (root.height, root.block) }
     ensures kept { store.new ≡ store.old }
-    ensures answer { result ≡ total S.none S.joined S.value_of (rows_on store.old.0 (root.height, root.block)) }
+    ensures answer { result ≡ summary_of S.summing (rows_on store.old.0 (root.height, root.block)) }
 {
     sum_block(store, root.block)
 }
