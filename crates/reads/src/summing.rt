@@ -1,31 +1,24 @@
 // Summaries, joined block by block.
-ghost use Rattle.std.specs.Prelude.{◌≡◌};
+ghost use Rattle.std.specs.Prelude.{◌≡◌, map};
 ghost use Rattle.device.specs.Meaning.{current_at};
 ghost use Rattle.tree.specs.Node.{map_e};
-ghost use Rattle.page.specs.View.{entries};
-ghost use Rattle.table.specs.Rows.{angle_of};
-ghost use Rattle.model.specs.TreeBlocks.{Each};
+ghost use Rattle.table.specs.Rows.{pair_of, angle_of};
 ghost use Rattle.reads.specs.Rows.{rows_on, GoodOn};
 ghost use Rattle.reads.specs.Summary.{summary_of};
-ghost use Rattle.reads.specs.Sound.{Valid, SoundAt, rows_at};
+ghost use Rattle.reads.specs.Sound.{SoundAt, rows_at};
 
-use super::lookup::row_of;
+use super::leaf::rows_of;
 use counts::Store;
 use device::Device;
-use page::page::Page;
 use page::roots::Root;
-use table::Summary;
+use table::{Row, Summary};
 
-// The summary of a leaf's rows.
-fn sum_leaf<S: Summary>(leaf: &Page) -> S
-    requires { Each Valid (entries leaf.now) }
-    ensures { result ≡ summary_of S.summing (map_e angle_of (entries leaf.now)) }
+// The summary of rows.
+fn sum_rows<S: Summary>(rows: &[Row]) -> S
+    ensures { result ≡ summary_of S.summing (map pair_of rows.now) }
 {
-    let mut sum = S::empty();
-    for entry in leaf.entries.iter() {
-        sum = sum.join(S::of_row(row_of(*entry)));
-    }
-    sum
+    rows.iter()
+        .fold(S::empty(), |sum, row| sum.join(S::of_row(*row)))
 }
 
 // The summary of the rows of a block and all below it.
@@ -36,7 +29,7 @@ fn sum_block<D: Device, S: Summary>(store: &mut Store<D>, block: u32) -> S
 {
     let page = store.read_page(block);
     if page.level == 0 {
-        return sum_leaf(&page);
+        return sum_rows(&rows_of(&page));
     }
     let mut sum = S::empty();
     for entry in page.entries.iter() {

@@ -6,7 +6,7 @@ use Rattle.page.specs.View.{pair, entries}
 use Rattle.tree.specs.Node.{map_e}
 use Rattle.reads.specs.Summary.{summary_of}
 use Rattle.tree.proofs.Over.{map-append}
-use Rattle.table.specs.Rows.{angle_of}
+use Rattle.table.specs.Rows.{pair_of, angle_of}
 use Rattle.reads.specs.Sound.{SoundAt, rows_at, rows_in}
 use Rattle.reads.proofs.Pages.{here, readable, of_full, page_rows, leaf_rows, leaf_valid, next_of}
 use Rattle.reads.proofs.Totals.{summary-append}
@@ -15,8 +15,8 @@ use Rattle.reads.proofs.summing.+sum_block.Goals as goal
 pub read_page-page-requires : goal.read_page-page-requires
 read_page-page-requires g t c = readable c.args.store.now.0 c.args.block c.requires
 
-pub sum_leaf-requires : goal.sum_leaf-requires
-sum_leaf-requires g t c =
+pub rows_of-requires : goal.rows_of-requires
+rows_of-requires g t c =
     let m = c.args.store.now.0 in
     let p = c.read_page-page.result in
     leaf_valid m c.args.block p (here m c.args.block p c.requires c.read_page-page.ensures.page) c.if-page-eq0.true
@@ -26,8 +26,8 @@ returns-then-page-eq0-clause-answer g t c =
     let s = g.S.Summary in
     let m = c.args.store.now.0 in
     let p = c.read_page-page.result in
-    c.sum_leaf.ensures
-    ∙ ap (λ (z : List (ℕ × ℕ)). summary_of s.summing (map_e angle_of z)) (sym (leaf_rows m c.args.block p (here m c.args.block p c.requires c.read_page-page.ensures.page) c.if-page-eq0.true))
+    c.sum_rows.ensures
+    ∙ ap (summary_of s.summing) (ap (map pair_of) c.deref.ensures.0 ∙ c.rows_of.ensures ∙ ap (map_e angle_of) (sym (leaf_rows m c.args.block p (here m c.args.block p c.requires c.read_page-page.ensures.page) c.if-page-eq0.true)))
 
 pub sum_block-requires : goal.sum_block-requires
 sum_block-requires g t c κs within =
