@@ -1,8 +1,9 @@
 -- The calls and answers of a machine, as the model names them.
-use Rattle.std.specs.Prelude.{ℕ, ℤ, List, map, take, Ok, Err, Result}
+use Rattle.std.specs.Prelude.{ℕ, List, map, take, Ok, Err, Result}
 use Rattle.table.specs.declared.pair.Pair.{Pair}
-use Rattle.tree.specs.Reads.{total}
+use Rattle.table.specs.Summary.{Summing}
 use Rattle.reads.specs.Lists.{row_in}
+use Rattle.reads.specs.Summary.{summary_of}
 use Rattle.model.specs.Plain as plain
 use Rattle.model.specs.Plain.{Map}
 use Rattle.history.specs.declared.call.Ask.{Ask}
@@ -49,5 +50,5 @@ answer_of out (Ok (Joined x)) = plain.Answer.joined x
 answer_of out (Err r) = plain.Answer.refused r
 
 -- the summary of a map's rows, of the one kind that a history has
-abbrev pub summed : {S : Type 0} → S → (S → S → S) → (ℕ → ℤ → S) → ℕ → Map → S
-summed none joined value_of k rows = total none joined value_of rows
+abbrev pub summed : {S : Type 0} → Summing S → ℕ → Map → S
+summed x k rows = summary_of x rows

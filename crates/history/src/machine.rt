@@ -33,7 +33,7 @@ fn ask<D: Device, S: Summary>(
     call: Ask,
     out: &mut [Pair],
 ) -> Result<Answer<S>, Refusal>
-    ensures step { Stepped S (summed S.none S.joined S.value_of) (mounted volume.old.0, volume.old.1) (ask (ask_of (length out.old) call)) (answer_of out.new result) (mounted volume.new.0, volume.new.1) }
+    ensures step { Stepped S (summed S.summing) (mounted volume.old.0, volume.old.1) (ask (ask_of (length out.old) call)) (answer_of out.new result) (mounted volume.new.0, volume.new.1) }
     ensures rest { drop (shown result) out.new ≡ drop (shown result) out.old }
     ensures fits { shown result ≤ length out.new }
 {
@@ -72,7 +72,7 @@ fn while_mounted<D: Device, S: Summary>(
     call: Call,
     out: &mut [Pair],
 ) -> (Machine<D>, Result<Answer<S>, Denied>)
-    ensures step { Outcome (Stepped S (summed S.none S.joined S.value_of)) out.new (mounted volume.0, volume.1) (call_of (length out.old) call) result.1 (state_of D.Device.meaning result.0) }
+    ensures step { Outcome (Stepped S (summed S.summing)) out.new (mounted volume.0, volume.1) (call_of (length out.old) call) result.1 (state_of D.Device.meaning result.0) }
     ensures rest { drop (shown result.1) out.new ≡ drop (shown result.1) out.old }
     ensures fits { shown result.1 ≤ length out.new }
 {
@@ -99,7 +99,7 @@ fn while_sealed<D: Device, S: Summary>(
     volume: Sealed<D>,
     call: Call,
 ) -> (Machine<D>, Result<Answer<S>, Denied>)
-    ensures step { (k : ℕ) (out : List Pair) → Outcome (Stepped S (summed S.none S.joined S.value_of)) out (sealed volume.0, volume.1) (call_of k call) result.1 (state_of D.Device.meaning result.0) }
+    ensures step { (k : ℕ) (out : List Pair) → Outcome (Stepped S (summed S.summing)) out (sealed volume.0, volume.1) (call_of k call) result.1 (state_of D.Device.meaning result.0) }
     ensures none { shown result.1 ≡ 0 }
 {
     match call {
@@ -118,7 +118,7 @@ fn while_down<D: Device, S: Summary>(
     device: D,
     call: Call,
 ) -> (Machine<D>, Result<Answer<S>, Denied>)
-    ensures step { (k : ℕ) (out : List Pair) → Outcome (Stepped S (summed S.none S.joined S.value_of)) out (down, D.Device.meaning device) (call_of k call) result.1 (state_of D.Device.meaning result.0) }
+    ensures step { (k : ℕ) (out : List Pair) → Outcome (Stepped S (summed S.summing)) out (down, D.Device.meaning device) (call_of k call) result.1 (state_of D.Device.meaning result.0) }
     ensures none { shown result.1 ≡ 0 }
 {
     match call {
@@ -140,7 +140,7 @@ fn step<D: Device, S: Summary>(
     call: Call,
     out: &mut [Pair],
 ) -> (Machine<D>, Result<Answer<S>, Denied>)
-    ensures step { Outcome (Stepped S (summed S.none S.joined S.value_of)) out.new (state_of D.Device.meaning machine) (call_of (length out.old) call) result.1 (state_of D.Device.meaning result.0) }
+    ensures step { Outcome (Stepped S (summed S.summing)) out.new (state_of D.Device.meaning machine) (call_of (length out.old) call) result.1 (state_of D.Device.meaning result.0) }
     ensures rest { drop (shown result.1) out.new ≡ drop (shown result.1) out.old }
     ensures fits { shown result.1 ≤ length out.new }
 {
@@ -158,7 +158,7 @@ pub fn perform<D: Device, S: Summary>(
     call: Call,
     out: &mut [Pair],
 ) -> (Machine<D>, Result<Answer<S>, Denied>)
-    ensures law { Outcome (Lawful S (summed S.none S.joined S.value_of)) out.new (state_of D.Device.meaning machine) (call_of (length out.old) call) result.1 (state_of D.Device.meaning result.0) }
+    ensures law { Outcome (Lawful S (summed S.summing)) out.new (state_of D.Device.meaning machine) (call_of (length out.old) call) result.1 (state_of D.Device.meaning result.0) }
     ensures rest { drop (shown result.1) out.new ≡ drop (shown result.1) out.old }
     ensures fits { shown result.1 ≤ length out.new }
 {

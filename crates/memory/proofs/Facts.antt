@@ -12,7 +12,7 @@ use Rattle.device.specs.declared.Layer.TheVariants.{Memory}
 use Rattle.device.proofs.Calls.{let_in, reading_at}
 use Rattle.device.proofs.Tables.{map_map, get_or_table, set_table, same_table}
 use Rattle.memory.specs.Fit.{rows, block_length}
-use Rattle.memory.specs.Memory.{memory, cleared, Sound, block_of, cell_of, Leaves, LeavesBlock, Outlasts}
+use Rattle.memory.specs.Memory.{Parts, parts, memory, cleared, Sound, block_of, cell_of, Leaves, LeavesBlock, Outlasts}
 
 module _ (xs : List ℕ) (w n : ℕ) (long : length xs ≡ n * w) where
   module _ (b k : ℕ) (ys : List ℕ) (h : b < n) (size : length ys ≡ w) (count : k ≡ w) where
@@ -41,50 +41,64 @@ module _ (xs : List ℕ) (w n : ℕ) (long : length xs ≡ n * w) where
     put_all P px py = All-append P _ _ (All-take P (b * w) xs px) (All-append P _ _ py (All-drop P k _ (All-drop P (b * w) xs px)))
 
 -- what is admitted has the right length and a block that is there
-pub admitted_at : (cur per marks : List ℕ) (w b n : ℕ) → Ok tt ≡ admitted Memory (memory cur per marks w) b n → (n ≡ w) × (b < length marks)
-admitted_at cur per marks w b n e =
-    let t = let_in Memory (memory cur per marks w) b n e in
-    (t.0, omega (arith, t.1, length-map-range_with_len (cell_of cur per marks w) 0 (length marks)))
+pub admitted_at : (p : Parts) (b n : ℕ) → Ok tt ≡ admitted Memory (memory p) b n → (n ≡ p.width) × (b < length p.marks)
+admitted_at p b n e =
+    let t = let_in Memory (memory p) b n e in
+    (t.0, omega (arith, t.1, length-map-range_with_len (cell_of p) 0 (length p.marks)))
 
-module _ (cur per marks : List ℕ) (w : ℕ) (s : Sound cur per marks w) where
-  pub read_at : (b n : ℕ) → b < length marks → n ≡ w → reading Memory (memory cur per marks w) b n ≡ Ok (block_of w cur b)
+module _ (p : Parts) (s : Sound p) where
+  abbrev cur : List ℕ
+  cur = p.current
+
+  abbrev marks : List ℕ
+  marks = p.marks
+
+  abbrev w : ℕ
+  w = p.width
+
+  pub read_at : (b n : ℕ) → b < length marks → n ≡ w → reading Memory (memory p) b n ≡ Ok (block_of w cur b)
   read_at b n h e =
-      reading_at Memory (memory cur per marks w) b n e (simp length-map-range_with_len h)
-      ∙ ap (λ (c : Cell). held c.current) (get_or_table (cell_of cur per marks w) (length marks) b no_cell h)
+      reading_at Memory (memory p) b n e (simp length-map-range_with_len h)
+      ∙ ap (λ (c : Cell). held c.current) (get_or_table (cell_of p) (length marks) b no_cell h)
 
   module _ (b k v : ℕ) (ws : List ℕ) (h : b < length marks) (size : length ws ≡ w) (count : k ≡ w) (more : v ≡ min (get_or marks b 0 + 1) 2) where
-    after_at : cell_of (put_mid (b * w) k cur ws) per (set marks b v) w b ≡ written_cell ws (cell_of cur per marks w b)
+    abbrev put : Parts
+    put = parts (put_mid (b * w) k cur ws) p.persisted (set marks b v) w
+
+    after_at : cell_of put b ≡ written_cell ws (cell_of p b)
     after_at =
-        let p = put_same cur w (length marks) s.cur_len b k ws h size count in
+        let p = put_same cur w (length marks) s.shaped.cur_len b k ws h size count in
         let q = get_or-set_same marks b v 0 h ∙ more in
         cc
 
-    after_other : (j : ℕ) → j < length marks → (j ≡ b → ⊥) → cell_of (put_mid (b * w) k cur ws) per (set marks b v) w j ≡ cell_of cur per marks w j
+    after_other : (j : ℕ) → j < length marks → (j ≡ b → ⊥) → cell_of put j ≡ cell_of p j
     after_other j j< ne =
-        let p = put_other cur w (length marks) s.cur_len b k ws h size count j j< ne in
+        let p = put_other cur w (length marks) s.shaped.cur_len b k ws h size count j j< ne in
         let q = get_or-set_other marks b j v 0 ne in
         cc
 
-    pub write_after : memory (put_mid (b * w) k cur ws) per (set marks b v) w ≡ written (memory cur per marks w) b ws
+    pub write_after : memory put ≡ written (memory p) b ws
     write_after =
         ap (λ (cs : List Cell). with_cells cs)
-        (ap (λ n. map (cell_of (put_mid (b * w) k cur ws) per (set marks b v) w) (range_with_len 0 n)) (length-set marks b v)
-        ∙ set_table (cell_of cur per marks w) (cell_of (put_mid (b * w) k cur ws) per (set marks b v) w) (length marks) b _ h
-        (after_at ∙ sym (ap (written_cell ws) (get_or_table (cell_of cur per marks w) (length marks) b no_cell h))) after_other)
+        (ap (λ n. map (cell_of put) (range_with_len 0 n)) (length-set marks b v)
+        ∙ set_table (cell_of p) (cell_of put) (length marks) b _ h
+        (after_at ∙ sym (ap (written_cell ws) (get_or_table (cell_of p) (length marks) b no_cell h))) after_other)
       where
         with_cells : List Cell → Meaning
         with_cells cs = record { width = w; cells = cs; left = endless; left_mark = own Memory }
 
-    pub write_sound : AllByRecursion (λ x. x < 2 ^ 32) ws → Sound (put_mid (b * w) k cur ws) per (set marks b v) w
+    pub write_sound : AllByRecursion (λ x. x < 2 ^ 32) ws → Sound put
     write_sound fits =
         let n : length (set marks b v) ≡ length marks = length-set marks b v in
         record {
-          cur_len = put_length cur w (length marks) s.cur_len b k ws h size count ∙ ap (λ j. j * w) (sym n);
-          per_len = s.per_len ∙ ap (λ j. j * w) (sym n);
-          some = omega (arith, s.some);
-          few = omega (arith, s.few);
-          broad = s.broad;
-          narrow = s.narrow;
+          shaped = record {
+            cur_len = put_length cur w (length marks) s.shaped.cur_len b k ws h size count ∙ ap (λ j. j * w) (sym n);
+            per_len = s.shaped.per_len ∙ ap (λ j. j * w) (sym n);
+            some = omega (arith, s.shaped.some);
+            few = omega (arith, s.shaped.few);
+            broad = s.shaped.broad;
+            narrow = s.shaped.narrow;
+          };
           counts = λ j j<. ⊎_elim
               (λ (e : j ≡ b). subst (λ i. get_or (set marks b v) i 0 ≤ 2) (sym e) (omega (arith, get_or-set_same marks b v 0 h)))
               (λ (ne : j ≡ b → ⊥). omega (arith, get_or-set_other marks b j v 0 ne, s.counts j (omega arith)))
@@ -92,52 +106,52 @@ module _ (cur per marks : List ℕ) (w : ℕ) (s : Sound cur per marks w) where
           clean = λ j j< z. ⊎_elim
               (λ (e : j ≡ b). absurd (clash (get_or-set_same marks b v 0 h) (subst (λ i. get_or (set marks b v) i 0 ≡ 0) e z)))
               (λ (ne : j ≡ b → ⊥). s.clean j (omega arith) (sym (get_or-set_other marks b j v 0 ne) ∙ z)
-              ∙ sym (put_other cur w (length marks) s.cur_len b k ws h size count j (omega arith) ne))
+              ∙ sym (put_other cur w (length marks) s.shaped.cur_len b k ws h size count j (omega arith) ne))
               (cases_eq j b);
-          cur_fit = put_all cur w (length marks) s.cur_len b k ws h size count _ s.cur_fit fits;
+          cur_fit = put_all cur w (length marks) s.shaped.cur_len b k ws h size count _ s.cur_fit fits;
           per_fit = s.per_fit;
         }
       where
         clash : {x : ℕ} → x ≡ v → x ≡ 0 → ⊥
         clash p q = omega arith
 
-  pub flush_after : memory cur cur (replicate (length marks) 0) w ≡ flushed (memory cur per marks w)
+  pub flush_after : memory (parts cur cur (replicate (length marks) 0) w) ≡ flushed (memory p)
   flush_after =
       ap (λ (cs : List Cell). with_cells cs)
-      (ap (λ n. map (cell_of cur cur (replicate (length marks) 0) w) (range_with_len 0 n)) (length-replicate (length marks) 0)
-      ∙ same_table (λ b. flushed_cell (cell_of cur per marks w b)) (cell_of cur cur (replicate (length marks) 0) w) (length marks)
+      (ap (λ n. map (cell_of (parts cur cur (replicate (length marks) 0) w)) (range_with_len 0 n)) (length-replicate (length marks) 0)
+      ∙ same_table (λ b. flushed_cell (cell_of p b)) (cell_of (parts cur cur (replicate (length marks) 0) w)) (length marks)
       (λ b h. let q = get_or-replicate {A = ℕ} (length marks) b 0 0 h in cc)
-      ∙ sym (map_map flushed_cell (cell_of cur per marks w) (range_with_len 0 (length marks))))
+      ∙ sym (map_map flushed_cell (cell_of p) (range_with_len 0 (length marks))))
     where
       with_cells : List Cell → Meaning
       with_cells cs = record { width = w; cells = cs; left = endless; left_mark = own Memory }
 
 -- opening after a cut shows a cut of what was shown before
-module _ (cur per marks left : List ℕ) (w : ℕ) (s : Sound cur per marks w) (l : Leaves w cur per marks left) where
-  cut_to : (b k : ℕ) → b < length marks → get_or marks b 0 ≡ k → LeavesBlock k (block_of w cur b) (block_of w per b) (block_of w left b) → CutTo w (cell_of cur per marks w b) (words (block_of w left b))
+module _ (p : Parts) (left : List ℕ) (s : Sound p) (l : Leaves p left) where
+  cut_to : (b k : ℕ) → b < length p.marks → get_or p.marks b 0 ≡ k → LeavesBlock k (block_of p.width p.current b) (block_of p.width p.persisted b) (block_of p.width left b) → CutTo p.width (cell_of p b) (words (block_of p.width left b))
   cut_to b zero h e x = inl (e, ap words (x ∙ s.clean b h e))
   cut_to b (suc zero) h e x = inr (inl (e, ⊎_elim (λ p. inl (ap words p)) (λ p. inr (ap words p)) x))
   cut_to b (suc (suc k)) h e x =
-      inr (inr (omega arith, (block_length left w (length marks) (l.same_length ∙ s.per_len) b h, All-take _ w _ (All-drop _ (b * w) left l.fits))))
+      inr (inr (omega arith, (block_length left p.width (length p.marks) (l.same_length ∙ s.shaped.per_len) b h, All-take _ p.width _ (All-drop _ (b * p.width) left l.fits))))
 
-  pub cut_cleared : Cut (memory cur per marks w) (cleared left (length marks) w)
+  pub cut_cleared : Cut (memory p) (cleared left (length p.marks) p.width)
   cut_cleared =
-      let e : length (replicate {A = ℕ} (length marks) 0) ≡ length marks = length-replicate (length marks) 0 in
+      let e : length (replicate {A = ℕ} (length p.marks) 0) ≡ length p.marks = length-replicate (length p.marks) 0 in
       record {
         width = refl;
         blocks = simp length-map-range_with_len e;
         cells = λ b h.
-            let h₁ : b < length marks = omega (arith, length-map-range_with_len (cell_of cur per marks w) 0 (length marks)) in
-            subst (λ c. CutCell w c (get_or (cleared left (length marks) w).cells b no_cell)) (sym (get_or_table (cell_of cur per marks w) (length marks) b no_cell h₁))
-            (subst (CutCell w (cell_of cur per marks w b))
-            (sym (get_or_table (cell_of left left (replicate (length marks) 0) w) (length (replicate {A = ℕ} (length marks) 0)) b no_cell (omega arith)))
+            let h₁ : b < length p.marks = omega (arith, length-map-range_with_len (cell_of p) 0 (length p.marks)) in
+            subst (λ c. CutCell p.width c (get_or (cleared left (length p.marks) p.width).cells b no_cell)) (sym (get_or_table (cell_of p) (length p.marks) b no_cell h₁))
+            (subst (CutCell p.width (cell_of p b))
+            (sym (get_or_table (cell_of (parts left left (replicate (length p.marks) 0) p.width)) (length (replicate {A = ℕ} (length p.marks) 0)) b no_cell (omega arith)))
             (record {
-              mark = get_or-replicate {A = ℕ} (length marks) b 0 0 h₁;
+              mark = get_or-replicate {A = ℕ} (length p.marks) b 0 0 h₁;
               equal = refl;
-              from = cut_to b (get_or marks b 0) h₁ refl (l.blocks b h₁);
+              from = cut_to b (get_or p.marks b 0) h₁ refl (l.blocks b h₁);
             }));
         left = omega arith;
       }
 
 pub opened_cut : (left : List ℕ) (n w : ℕ) → Outlasts left n w (cleared left n w)
-opened_cut left n w cur per marks e s l = subst (λ k. Cut (memory cur per marks w) (cleared left k w)) e (cut_cleared cur per marks left w s l)
+opened_cut left n w p e f s l = subst (λ k. Cut (memory p) (cleared left k w)) e (subst (λ v. Cut (memory p) (cleared left (length p.marks) v)) f (cut_cleared p left s l))

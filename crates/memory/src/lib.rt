@@ -8,7 +8,7 @@ ghost use Rattle.device.specs.declared.Layer.{Layer};
 ghost use Rattle.device.specs.Meaning.{written};
 ghost use Rattle.std.proofs.Props.{props};
 ghost use Rattle.memory.specs.Fit.{fit};
-ghost use Rattle.memory.specs.Memory.{memory, Sound, Shaped, block_of, cleared, Outlasts};
+ghost use Rattle.memory.specs.Memory.{memory, parts, parts_of, Sound, Shaped, block_of, cleared, Outlasts};
 
 use device::{Device, DeviceFault, Layer, LayerMark, Unshaped};
 
@@ -16,7 +16,7 @@ use device::{Device, DeviceFault, Layer, LayerMark, Unshaped};
 pub struct Memory<'a> {
     slices: Slices<'a>,
     width: usize,
-    ghost sound: { Sound slices.current.now slices.persisted.now slices.marks.now width } by { Prim.hlevel props },
+    ghost sound: { Sound (parts_of slices width) } by { Prim.hlevel props },
 }
 
 // What a memory is made of: each slice is lent apart, since only the persisted words outlast a cut.
@@ -30,8 +30,7 @@ pub struct Slices<'a> {
 impl<'a> Slices<'a> {
     // Are there as many blocks as marks, 1 to 4,096, of 1 to 64 words, and words for each of them?
     fn is_shaped(&self, width: usize) -> bool
-        ensures { MatchBool result (Shaped (length self.now.current.now) (length self.now.persisted.now) (length self.now.marks.now) width)
-            (Shaped (length self.now.current.now) (length self.now.persisted.now) (length self.now.marks.now) width → ⊥) }
+        ensures { MatchBool result (Shaped (parts_of self.now width)) (Shaped (parts_of self.now width) → ⊥) }
     {
         let blocks = self.marks.len();
         (1..=4096).contains(&blocks)
@@ -42,11 +41,10 @@ impl<'a> Slices<'a> {
 
     // Makes the words the current ones of a block, and counts the write in its mark.
     fn put(&mut self, block: usize, words: &[u32])
-        requires sound { Sound self.old.current.now self.old.persisted.now self.old.marks.now (length words.now) }
+        requires sound { Sound (parts_of self.old (length words.now)) }
         requires there { block < length self.old.marks.now }
-        ensures sound { Sound self.new.current.now self.new.persisted.now self.new.marks.now (length words.now) }
-        ensures after { memory self.new.current.now self.new.persisted.now self.new.marks.now (length words.now)
-            ≡ written (memory self.old.current.now self.old.persisted.now self.old.marks.now (length words.now)) block words.now }
+        ensures sound { Sound (parts_of self.new (length words.now)) }
+        ensures after { memory (parts_of self.new (length words.now)) ≡ written (memory (parts_of self.old (length words.now))) block words.now }
     {
         let from = block * words.len();
         self.marks[block] = self.marks[block].saturating_add(1).min(2);
@@ -96,11 +94,11 @@ impl<'a> Memory<'a> {
         width: usize,
     ) -> Result<Memory<'a>, Unshaped<Slices<'a>>>
         ensures opened { MatchResult result
-            (λ s. Shaped (length current.old) (length persisted.old) (length marks.old) width
-            × (memory s.slices.current.now s.slices.persisted.now s.slices.marks.now s.width ≡ cleared persisted.old (length marks.old) width))
-            (λ e. (Shaped (length current.old) (length persisted.old) (length marks.old) width → ⊥)
+            (λ s. Shaped (parts current.old persisted.old marks.old width)
+            × (memory (parts_of s.slices s.width) ≡ cleared persisted.old (length marks.old) width))
+            (λ e. (Shaped (parts current.old persisted.old marks.old width) → ⊥)
             × (e.given.current.now ≡ current.old) × (e.given.persisted.now ≡ persisted.old) × (e.given.marks.now ≡ marks.old)) }
-        ensures cut { IfOk result (λ s. Outlasts persisted.old (length marks.old) width (memory s.slices.current.now s.slices.persisted.now s.slices.marks.now s.width)) }
+        ensures cut { IfOk result (λ s. Outlasts persisted.old (length marks.old) width (memory (parts_of s.slices s.width))) }
     {
         let mut slices = Slices {
             current,
@@ -134,9 +132,9 @@ impl<'a> Memory<'a> {
 impl<'a> Device for Memory<'a> {
     ghost code = { Layer.Memory };
 
-    ghost meaning = { λ s. memory s.slices.current.now s.slices.persisted.now s.slices.marks.now s.width };
+    ghost meaning = { λ s. memory (parts_of s.slices s.width) };
 
-    ghost fit = { λ s. fit s.slices.current.now s.slices.persisted.now s.slices.marks.now s.width s.sound };
+    ghost fit = { λ s. fit (parts_of s.slices s.width) s.sound };
 
     fn layer(&self) -> Layer {
         Layer::Memory

@@ -67,7 +67,7 @@ mod tests {
     {
         let mut altered = words;
         altered[at] = word;
-        Slot::read(blocks, 0, &altered).is_some()
+        Slot::decode(&altered).is_some_and(|slot| slot.stands(blocks, 0))
     }
 
     // A leaf with the row 400, angle -100.

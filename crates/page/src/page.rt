@@ -12,6 +12,8 @@ pub struct Entry {
 }
 
 impl Default for Entry {
+    ghost is_default = { λ entry. (entry.speed ≡ 0) × (entry.value ≡ 0) };
+
     fn default() -> Entry {
         Entry { speed: 0, value: 0 }
     }

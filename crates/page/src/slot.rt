@@ -71,9 +71,8 @@ impl Stored for Slot {
 }
 
 impl Slot {
-    ghost use Rattle.std.specs.Prelude.{◌≡◌, ◌≤◌, length};
-    ghost use Rattle.std.specs.Option.{option_map};
-    ghost use Rattle.page.specs.Slot.{slot_read, slot_stands, every, rooted};
+    ghost use Rattle.std.specs.Prelude.{◌≡◌};
+    ghost use Rattle.page.specs.Slot.{slot_stands, every, rooted};
     ghost use Rattle.page.specs.View.{slot_of, root_of};
 
     // Whether each clone's root stands, on a device of so many blocks.
@@ -88,13 +87,5 @@ impl Slot {
         ensures { result ≡ slot_stands blocks block (slot_of self.now) }
     {
         self.generation % 2 == block && self.is_rooted(blocks)
-    }
-
-    // The slot that the words of a block hold, if they hold one.
-    pub fn read(blocks: u32, block: u32, words: &[u32]) -> Option<Slot>
-        requires wide { (32 ≤ length words.now) × (length words.now ≤ 40) }
-        ensures { option_map slot_of result ≡ slot_read blocks block words.now }
-    {
-        Slot::decode(words).filter(|slot| slot.stands(blocks, block))
     }
 }

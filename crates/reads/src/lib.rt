@@ -3,6 +3,7 @@
 #![tactic(auto)]
 
 mod descent;
+mod leaf;
 mod listing;
 mod lookup;
 mod summing;

@@ -2,31 +2,27 @@
 ghost use Rattle.std.specs.Prelude.{◌≡◌, min, length, map, take, drop};
 ghost use Rattle.device.specs.Meaning.{current_at};
 ghost use Rattle.tree.specs.Node.{map_e};
-ghost use Rattle.page.specs.View.{entries};
 ghost use Rattle.model.specs.Plain.{from};
-ghost use Rattle.table.specs.Rows.{angle_of};
-ghost use Rattle.model.specs.TreeBlocks.{Each};
+ghost use Rattle.table.specs.Rows.{pair_of, angle_of};
 ghost use Rattle.reads.specs.Rows.{rows_on, GoodOn};
-ghost use Rattle.reads.specs.Sound.{Valid, SoundAt, rows_at};
+ghost use Rattle.reads.specs.Sound.{SoundAt, rows_at};
 ghost use Rattle.reads.specs.Lists.{row_in, due, written};
 
-use super::lookup::row_of;
+use super::leaf::rows_of;
 use counts::Store;
 use device::Device;
-use page::page::Page;
 use page::roots::Root;
-use table::Pair;
+use table::{Pair, Row};
 
-// Writes a leaf's rows from a speed on to a slice, as many as it takes, and answers how many.
-fn list_leaf(leaf: &Page, speed: u32, out: &mut [Pair]) -> usize
-    requires { Each Valid (entries leaf.now) }
-    ensures count { result ≡ min (length out.old) (length (due speed (map_e angle_of (entries leaf.now)))) }
-    ensures listed { out.new ≡ written (due speed (map_e angle_of (entries leaf.now))) out.old }
+// Writes the rows of a speed or above to a slice, as many as it takes, and answers how many.
+fn list_rows(rows: &[Row], speed: u32, out: &mut [Pair]) -> usize
+    ensures count { result ≡ min (length out.old) (length (due speed (map pair_of rows.now))) }
+    ensures listed { out.new ≡ written (due speed (map pair_of rows.now)) out.old }
 {
     let mut n = 0;
-    for entry in leaf.entries.iter() {
-        if entry.speed >= speed && n < out.len() {
-            out[n] = Pair::from(row_of(*entry));
+    for row in rows {
+        if row.speed >= speed && n < out.len() {
+            out[n] = Pair::from(*row);
             n += 1;
         }
     }
@@ -45,7 +41,7 @@ fn list_block<D: Device>(store: &mut Store<D>, block: u32, speed: u32, out: &mut
     }
     let page = store.read_page(block);
     if page.level == 0 {
-        return list_leaf(&page, speed, out);
+        return list_rows(&rows_of(&page), speed, out);
     }
     let first = page.covering(speed);
     let mut n = 0;

@@ -1,39 +1,27 @@
 // The angle of a row, and the angle at a speed.
-ghost use Rattle.std.specs.Prelude.{◌≡◌};
+ghost use Rattle.std.specs.Prelude.{◌≡◌, map};
 ghost use Rattle.device.specs.Meaning.{current_at};
 ghost use Rattle.table.specs.Rows.{pair_of, angle_of};
 ghost use Rattle.table.specs.Angles.{angle_at};
 ghost use Rattle.table.specs.Around.{StandsAround};
 ghost use Rattle.tree.specs.Node.{map_e};
 ghost use Rattle.tree.specs.Reads.{look};
-ghost use Rattle.page.specs.View.{pair, entries};
-ghost use Rattle.model.specs.TreeBlocks.{Each};
 ghost use Rattle.reads.specs.Rows.{rows_on, GoodOn};
-ghost use Rattle.reads.specs.Sound.{Valid};
 ghost use Rattle.reads.specs.Descent.{Beside, rows_beside};
 
 use super::descent::descend;
+use super::leaf::rows_of;
 use counts::Store;
 use device::Device;
-use page::page::{Entry, Page};
 use page::roots::Root;
 use table::{Around, Row, angle_by};
 
-// The row of an entry of a leaf.
-pub fn row_of(entry: Entry) -> Row
-    requires { Valid (pair entry) }
-    ensures { pair_of result ≡ (entry.speed, angle_of entry.value) }
+// The angle of the row of a speed, if there is one.
+fn look_in(rows: &[Row], speed: u32) -> Option<i32>
+    ensures { result ≡ look speed (map pair_of rows.now) }
 {
-    Row::from_stored(entry.speed, entry.value)
-}
-
-// The angle of a leaf's row of a speed, if there is one.
-fn look_in(leaf: &Page, speed: u32) -> Option<i32>
-    requires { Each Valid (entries leaf.now) }
-    ensures { result ≡ look speed (map_e angle_of (entries leaf.now)) }
-{
-    let entry = leaf.entries.iter().find(|entry| speed == entry.speed)?;
-    Some(row_of(*entry).angle)
+    let row = rows.iter().find(|row| speed == row.speed)?;
+    Some(row.angle)
 }
 
 // The angle of the row of a speed, if there is one. Reads one block a level.
@@ -43,29 +31,17 @@ pub fn get<D: Device>(store: &mut Store<D>, root: Root, speed: u32) -> Option<i3
     ensures answer { result ≡ look speed (rows_on store.old.0 (root.height, root.block)) }
 {
     let place = descend(store, root.block, speed);
-    look_in(&place.leaf, speed)
+    look_in(&rows_of(&place.leaf), speed)
 }
 
-// The rows of a leaf on either side of a speed.
-fn around(leaf: &Page, speed: u32) -> Around
-    requires { Each Valid (entries leaf.now) }
-    ensures { StandsAround speed (map_e angle_of (entries leaf.now)) result }
-{
-    let mut around = Around::default();
-    for entry in leaf.entries.iter() {
-        around = around.with(row_of(*entry), speed);
-    }
-    around
-}
-
-// The same over the rows of a block, if there is one, that are all on one side of the speed: the row that is nearest to it.
+// Of the rows of a block, if there is one, that are all on one side of a speed: the row that is nearest to it.
 fn nearest<D: Device>(store: &mut Store<D>, block: Option<u32>, speed: u32) -> Around
     requires { Beside (current_at store.old.0) speed block }
     ensures kept { store.new ≡ store.old }
     ensures nearest { StandsAround speed (map_e angle_of (rows_beside (current_at store.old.0) block)) result }
 {
     match block {
-        Some(block) => around(&descend(store, block, speed).leaf, speed),
+        Some(block) => Around::of(&rows_of(&descend(store, block, speed).leaf), speed),
         None => Around::default(),
     }
 }
@@ -78,7 +54,7 @@ pub fn at<D: Device>(store: &mut Store<D>, root: Root, speed: u32) -> Option<i32
     ensures answer { result ≡ angle_at speed (rows_on store.old.0 (root.height, root.block)) }
 {
     let place = descend(store, root.block, speed);
-    let Around { below, above } = around(&place.leaf, speed);
+    let Around { below, above } = Around::of(&rows_of(&place.leaf), speed);
     match (below, above) {
         (Some(below), Some(above)) => angle_by(Some(below), Some(above), speed),
         (None, above) => angle_by(nearest(store, place.left, speed).below, above, speed),

@@ -1,4 +1,5 @@
 pub mod Rows
 pub mod Angles
 pub mod Around
+pub mod Summary
 pub mod Summaries

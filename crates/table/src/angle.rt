@@ -37,9 +37,6 @@ pub fn angle_by(before: Option<Row>, after: Option<Row>, speed: u32) -> Option<i
 pub fn angle_at(rows: &[Row], speed: u32) -> Option<i32>
     ensures { result ≡ angle_at speed (map pair_of rows.now) }
 {
-    let mut around = Around::default();
-    for row in rows {
-        around = around.with(*row, speed);
-    }
-    angle_by(around.below, around.above, speed)
+    let Around { below, above } = Around::of(rows, speed);
+    angle_by(below, above, speed)
 }

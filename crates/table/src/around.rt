@@ -1,5 +1,5 @@
 // The rows on either side of a speed, found row by row.
-ghost use Rattle.std.specs.Prelude.{ℕ, ℤ, List, [], ◌∷◌, ◌++◌};
+ghost use Rattle.std.specs.Prelude.{ℕ, ℤ, List, [], ◌∷◌, ◌++◌, map};
 ghost use Rattle.table.specs.Rows.{pair_of};
 ghost use Rattle.table.specs.Around.{StandsAround};
 
@@ -13,6 +13,17 @@ pub struct Around {
 }
 
 impl Around {
+    // Of ascending rows.
+    pub fn of(rows: &[Row], speed: u32) -> Around
+        ensures { StandsAround speed (map pair_of rows.now) result }
+    {
+        let mut around = Around::default();
+        for row in rows {
+            around = around.with(*row, speed);
+        }
+        around
+    }
+
     // The same with one more row seen; rows are seen in ascending order.
     pub fn with(self, row: Row, speed: u32) -> Around
         ensures { (rows : List (ℕ × ℤ)) → StandsAround speed rows self → StandsAround speed (rows ++ pair_of row ∷ []) result }

@@ -11,6 +11,14 @@ pub struct Row {
     ghost ranges: { (speed ≤ 9999) × (negsuc 8999 ≤ℤ angle) × (angle ≤ℤ pos 9000) },
 }
 
+impl Default for Row {
+    ghost is_default = { λ row. (row.speed ≡ 0) × (row.angle ≡ pos 0) };
+
+    fn default() -> Row {
+        Row { speed: 0, angle: 0 }
+    }
+}
+
 // Why two numbers are no row, by the refusal's number.
 #[derive(Clone, Copy, PartialEq, Eq, Debug, Drop, Error)]
 pub enum RowFault {

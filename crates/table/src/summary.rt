@@ -1,44 +1,35 @@
-ghost use Rattle.std.specs.Prelude.{◌≡◌, ℕ, ℤ};
+ghost use Rattle.std.specs.Prelude.{◌≡◌};
+ghost use Rattle.table.specs.Summary.{Summing, in_pairs};
 
 use super::row::Row;
 
 // A value that sums up rows: one for no row, one for each row, and a join of the values of neighbouring runs of rows.
 // Whichever way the runs are cut, the joined value is the same.
 pub trait Summary: Sized {
-    // The value of no row.
-    ghost none: { Self };
-
-    // The value of one row, by its speed and angle.
-    ghost value_of: { ℕ → ℤ → Self };
-
-    // The value of two runs, the first one's rows before the second one's.
-    ghost joined: { Self → Self → Self };
+    // These three, as the proofs have them.
+    ghost summing: { Summing Self };
 
     fn empty() -> Self
-        ensures { result ≡ none };
+        ensures { result ≡ summing.none };
 
     fn of_row(row: Row) -> Self
-        ensures { result ≡ value_of row.speed row.angle };
+        ensures { result ≡ summing.value_of row.speed row.angle };
 
     fn join(self, other: Self) -> Self
-        ensures { result ≡ joined self other };
+        ensures { result ≡ summing.joined self other };
 
-    ghost none_before: { (x : Self) → joined none x ≡ x };
+    ghost none_before: { (x : Self) → summing.joined summing.none x ≡ x };
 
-    ghost none_after: { (x : Self) → joined x none ≡ x };
+    ghost none_after: { (x : Self) → summing.joined x summing.none ≡ x };
 
-    ghost associates: { (x y z : Self) → joined (joined x y) z ≡ joined x (joined y z) };
+    ghost associates: { (x y z : Self) → summing.joined (summing.joined x y) z ≡ summing.joined x (summing.joined y z) };
 }
 
 // Two summaries in one.
 impl<A: Summary, B: Summary> Summary for (A, B) {
     ghost use Rattle.std.proofs.Common.{ap₂};
 
-    ghost none = { (A.none, B.none) };
-
-    ghost value_of = { λ s a. (A.value_of s a, B.value_of s a) };
-
-    ghost joined = { λ x y. (A.joined x.0 y.0, B.joined x.1 y.1) };
+    ghost summing = { in_pairs A.summing B.summing };
 
     fn empty() -> (A, B) {
         (A::empty(), B::empty())

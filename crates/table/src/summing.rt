@@ -6,11 +6,7 @@ use super::row::Row;
 use super::summary::Summary;
 
 impl Summary for Count {
-    ghost none = { count 0 };
-
-    ghost value_of = { count_of };
-
-    ghost joined = { counts };
+    ghost summing = { record { none = count 0; value_of = count_of; joined = counts } };
 
     fn empty() -> Count {
         Count { rows: 0 }
@@ -34,11 +30,7 @@ impl Summary for Count {
 }
 
 impl Summary for Span {
-    ghost none = { span None };
-
-    ghost value_of = { span_of };
-
-    ghost joined = { spans };
+    ghost summing = { record { none = span None; value_of = span_of; joined = spans } };
 
     fn empty() -> Span {
         Span { extent: None }
@@ -75,11 +67,7 @@ impl Summary for Span {
 }
 
 impl Summary for Sum {
-    ghost none = { sum (pos 0) };
-
-    ghost value_of = { sum_of };
-
-    ghost joined = { sums };
+    ghost summing = { record { none = sum (pos 0); value_of = sum_of; joined = sums } };
 
     fn empty() -> Sum {
         Sum { angles: 0 }

@@ -6,13 +6,14 @@ ghost use Rattle.model.specs.Plain.{Ask.create, Ask.clone, Ask.delete, Ask.put, 
 ghost use Rattle.page.specs.View.{root_of, slot_of};
 ghost use Rattle.device.specs.Meaning.{blocks_of};
 ghost use Rattle.table.specs.Angles.{angle_at};
-ghost use Rattle.tree.specs.Reads.{look, total};
+ghost use Rattle.tree.specs.Reads.{look};
 ghost use Rattle.edit.specs.Edited.{Granted};
 ghost use Rattle.page.specs.Slot.{Table};
 ghost use Rattle.model.specs.World.{sizes, found, fresh, bare};
 ghost use Rattle.model.specs.declared.refusal.Refusal.TheVariants.{Number};
 ghost use Rattle.mount.specs.Formats.{Made, Hindered};
 ghost use Rattle.mount.specs.Mounts.{Accepted, Off, Refused};
+ghost use Rattle.reads.specs.Summary.{summary_of};
 ghost use Rattle.reads.specs.Lists.{row_in};
 ghost use Rattle.volume.specs.Kept.{Called, Stands, lacking_in, rows_of_clone};
 
@@ -312,7 +313,7 @@ impl<D: Device> Volume<D> {
 
     // A summary of a clone's rows, joined block by block.
     pub fn summary<S: Summary>(&mut self, n: u32) -> Result<S, Refusal>
-        ensures { (k : ℕ) → Called (summary k n) (total S.none S.joined S.value_of (rows_of_clone self.old n)) self.old result self.new }
+        ensures { (k : ℕ) → Called (summary k n) (summary_of S.summing (rows_of_clone self.old n)) self.old result self.new }
     {
         let root = self.find(n)?;
         Ok(reads::summary(&mut self.store, root))

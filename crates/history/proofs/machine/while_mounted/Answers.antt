@@ -5,5 +5,5 @@ use Rattle.history.proofs.machine.while_mounted.Goals as goal
 
 pub returns-in-Ok-clause-step : goal.returns-in-Ok-clause-step
 returns-in-Ok-clause-step g c =
-    let s = seal_step g.row.S.Denot (summed g.S.Summary.none g.S.Summary.joined g.S.Summary.value_of) c.args.volume.0 c.args.volume.1 c.in-Ok.sealed c.in-Ok.ensures.0 c.in-Ok.ensures.1 in
+    let s = seal_step g.row.S.Denot (summed g.S.Summary.summing) c.args.volume.0 c.args.volume.1 c.in-Ok.sealed c.in-Ok.ensures.0 c.in-Ok.ensures.1 in
     search rules

@@ -1,5 +1,5 @@
 use Rattle.std.proofs.Common.{◌≡◌, length, sym, ap, ◌∙◌, subst}
-use Rattle.memory.specs.Memory.{memory, cleared, Outlasts}
+use Rattle.memory.specs.Memory.{parts, parts_of, memory, cleared, Outlasts}
 use Rattle.memory.proofs.Facts.{opened_cut}
 use Rattle.memory.proofs.Memory.open.Goals as goal
 
@@ -10,7 +10,7 @@ returns-clause-cut c =
     let w = c.args.width in
     let t = c.restore.new.self in
     let e = c.restore.ensures in
-    let shown : memory t.current.now t.persisted.now t.marks.now w ≡ cleared per n w =
-    ap (λ x. memory x t.persisted.now t.marks.now w) e.current ∙ ap (λ x. memory per x t.marks.now w) e.persisted
-    ∙ ap (λ ms. memory per per ms w) e.marks in
+    let shown : memory (parts_of t w) ≡ cleared per n w =
+    ap (λ x. memory (parts x t.persisted.now t.marks.now w)) e.current ∙ ap (λ x. memory (parts per x t.marks.now w)) e.persisted
+    ∙ ap (λ ms. memory (parts per per ms w)) e.marks in
     subst (Outlasts per n w) (sym shown) (opened_cut per n w)

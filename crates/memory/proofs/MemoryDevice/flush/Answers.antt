@@ -1,5 +1,5 @@
 use Rattle.std.proofs.Common.{ap, ◌∙◌}
-use Rattle.memory.specs.Memory.{memory}
+use Rattle.memory.specs.Memory.{parts, parts_of, memory}
 use Rattle.memory.proofs.Facts.{flush_after}
 use Rattle.memory.proofs.MemoryDevice.flush.Goals as goal
 
@@ -9,6 +9,6 @@ returns c =
     let t = c.persist.new.self in
     let e = c.persist.ensures in
     record {
-      after = ap (λ x. memory x t.persisted.now t.marks.now s.width) e.current ∙ ap (λ x. memory s.slices.current.now x t.marks.now s.width) e.persisted
-          ∙ ap (λ ms. memory s.slices.current.now s.slices.current.now ms s.width) e.marks ∙ flush_after s.slices.current.now s.slices.persisted.now s.slices.marks.now s.width s.sound;
+      after = ap (λ x. memory (parts x t.persisted.now t.marks.now s.width)) e.current ∙ ap (λ x. memory (parts s.slices.current.now x t.marks.now s.width)) e.persisted
+          ∙ ap (λ ms. memory (parts s.slices.current.now s.slices.current.now ms s.width)) e.marks ∙ flush_after (parts_of s.slices s.width) s.sound;
     }

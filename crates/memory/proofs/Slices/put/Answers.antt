@@ -2,7 +2,7 @@ use Rattle.std.proofs.Common.{◌≡◌, ◌<◌, ◌^◌, length, sym, ap, ◌�
 use Rattle.std.specs.List.{AllByRecursion}
 use Rattle.std.proofs.ByRecursion.{All-from_get_or}
 use Rattle.device.specs.Meaning.{written}
-use Rattle.memory.specs.Memory.{memory}
+use Rattle.memory.specs.Memory.{parts_of, memory}
 use Rattle.memory.specs.Fit.{rows}
 use Rattle.memory.proofs.Facts.{write_after, write_sound}
 use Rattle.memory.proofs.Slices.put.Goals as goal
@@ -10,7 +10,7 @@ use Rattle.memory.proofs.Slices.put.Goals as goal
 pub slice_bounds-copy_from_slice-end : goal.slice_bounds-copy_from_slice-end
 slice_bounds-copy_from_slice-end c =
     let s = c.args.self.now in
-    omega (arith, rows c.args.block (length s.marks.now) (length c.args.words.now) c.requires.there, c.requires.sound.cur_len)
+    omega (arith, rows c.args.block (length s.marks.now) (length c.args.words.now) c.requires.there, c.requires.sound.shaped.cur_len)
 
 pub returns : goal.returns
 returns c =
@@ -19,8 +19,8 @@ returns c =
     let e : c.copy_from_slice.new.self ≡ ws = c.copy_from_slice.ensures.after in
     let fits : AllByRecursion (λ x. x < 2 ^ 32) ws = All-from_get_or (λ x. x < 2 ^ 32) ws 0 (λ i h. omega (arith, c.type_inv.words i)) in
     record {
-      sound = write_sound s.current.now s.persisted.now s.marks.now (length ws) c.requires.sound c.args.block _ _ c.copy_from_slice.new.self c.requires.there (ap length e) (omega arith) (omega arith)
+      sound = write_sound (parts_of s (length ws)) c.requires.sound c.args.block _ _ c.copy_from_slice.new.self c.requires.there (ap length e) (omega arith) (omega arith)
           (subst (AllByRecursion (λ x. x < 2 ^ 32)) (sym e) fits);
-      after = write_after s.current.now s.persisted.now s.marks.now (length ws) c.requires.sound c.args.block _ _ c.copy_from_slice.new.self c.requires.there (ap length e) (omega arith) (omega arith)
-          ∙ ap (written (memory s.current.now s.persisted.now s.marks.now (length ws)) c.args.block) e;
+      after = write_after (parts_of s (length ws)) c.requires.sound c.args.block _ _ c.copy_from_slice.new.self c.requires.there (ap length e) (omega arith) (omega arith)
+          ∙ ap (written (memory (parts_of s (length ws))) c.args.block) e;
     }

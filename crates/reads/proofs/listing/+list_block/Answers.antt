@@ -9,7 +9,7 @@ use Rattle.page.proofs.Pages.{entries_length}
 use Rattle.table.specs.declared.pair.Pair.{Pair}
 use Rattle.tree.specs.Node.{map_e}
 use Rattle.tree.proofs.Over.{map-append}
-use Rattle.table.specs.Rows.{angle_of}
+use Rattle.table.specs.Rows.{pair_of, angle_of}
 use Rattle.reads.specs.Sound.{SoundAt, rows_at, rows_in}
 use Rattle.reads.specs.Lists.{due, written}
 use Rattle.reads.proofs.Pages.{here, readable, of_full, leaf_rows, leaf_valid, next_of, due_page}
@@ -23,8 +23,8 @@ returns-then-is_empty-clause-listed g t c = empty_slice (due c.args.speed (map_e
 pub read_page-page-requires : goal.read_page-page-requires
 read_page-page-requires g t c = readable c.args.store.now.0 c.args.block c.requires
 
-pub list_leaf-requires : goal.list_leaf-requires
-list_leaf-requires g t c =
+pub rows_of-requires : goal.rows_of-requires
+rows_of-requires g t c =
     let m = c.args.store.now.0 in
     let p = c.read_page-page.result in
     leaf_valid m c.args.block p (here m c.args.block p c.requires c.read_page-page.ensures.page) c.if-page-eq0.true
@@ -33,15 +33,15 @@ pub returns-then-page-eq0-clause-count : goal.returns-then-page-eq0-clause-count
 returns-then-page-eq0-clause-count g t c =
     let m = c.args.store.now.0 in
     let p = c.read_page-page.result in
-    c.list_leaf.ensures.count
-    ∙ ap (λ (z : List (ℕ × ℕ)). min (length c.args.out.now) (length (due c.args.speed (map_e angle_of z)))) (sym (leaf_rows m c.args.block p (here m c.args.block p c.requires c.read_page-page.ensures.page) c.if-page-eq0.true))
+    c.list_rows.ensures.count
+    ∙ ap (λ (z : List (ℕ × ℤ)). min (length c.args.out.now) (length (due c.args.speed z))) (ap (map pair_of) c.deref.ensures.0 ∙ c.rows_of.ensures ∙ ap (map_e angle_of) (sym (leaf_rows m c.args.block p (here m c.args.block p c.requires c.read_page-page.ensures.page) c.if-page-eq0.true)))
 
 pub returns-then-page-eq0-clause-listed : goal.returns-then-page-eq0-clause-listed
 returns-then-page-eq0-clause-listed g t c =
     let m = c.args.store.now.0 in
     let p = c.read_page-page.result in
-    c.list_leaf.ensures.listed
-    ∙ ap (λ (z : List (ℕ × ℕ)). written (due c.args.speed (map_e angle_of z)) c.args.out.now) (sym (leaf_rows m c.args.block p (here m c.args.block p c.requires c.read_page-page.ensures.page) c.if-page-eq0.true))
+    c.list_rows.ensures.listed
+    ∙ ap (λ (z : List (ℕ × ℤ)). written (due c.args.speed z) c.args.out.now) (ap (map pair_of) c.deref.ensures.0 ∙ c.rows_of.ensures ∙ ap (map_e angle_of) (sym (leaf_rows m c.args.block p (here m c.args.block p c.requires c.read_page-page.ensures.page) c.if-page-eq0.true)))
 
 pub covering-first-requires : goal.covering-first-requires
 covering-first-requires g t c =
@@ -59,9 +59,9 @@ list_block-n-requires g t c κs within =
     let m = c.args.store.now.0 in
     let p = c.read_page-page.result in
     let e = c.entry-item.result in
-    let ys = c.deref.result.now in
+    let ys = c.deref-2.result.now in
     let k = c.covering-first.result in
-    let n = next_of m c.args.block p k c.loop-entry.entry-index e (take (length ys - k) (drop k ys)) (here m c.args.block p c.requires c.read_page-page.ensures.page) (omega (arith, c.if-page-eq0.false)) (rest ys p.entries.items k c.deref.ensures.0) c.loop-entry-test.true c.entry-item.is in
+    let n = next_of m c.args.block p k c.loop-entry.entry-index e (take (length ys - k) (drop k ys)) (here m c.args.block p c.requires c.read_page-page.ensures.page) (omega (arith, c.if-page-eq0.false)) (rest ys p.entries.items k c.deref-2.ensures.0) c.loop-entry-test.true c.entry-item.is in
     let same : c.loop-entry.store.0 ≡ m = ap (λ (q : Meaning × List ℕ). q.0) c.loop-entry.invariant.kept in
     (omega (arith, c.decreases, n.lower, ap (λ (z : Meaning). level_of (block_at z e.value)) same), (within, subst (λ (z : Meaning). SoundAt (current_at z) e.value) (sym same) (of_full m e.value n.full)))
 
@@ -72,11 +72,11 @@ loop-entry-preserved g t c =
     let p = c.read_page-page.result in
     let e = c.entry-item.result in
     let i = c.loop-entry.entry-index in
-    let ys = c.deref.result.now in
+    let ys = c.deref-2.result.now in
     let k = c.covering-first.result in
     let xs = take (length ys - k) (drop k ys) in
     let lv = level_of (block_at m c.args.block) in
-    let n = next_of m c.args.block p k i e xs (here m c.args.block p c.requires c.read_page-page.ensures.page) (omega (arith, c.if-page-eq0.false)) (rest ys p.entries.items k c.deref.ensures.0) c.loop-entry-test.true c.entry-item.is in
+    let n = next_of m c.args.block p k i e xs (here m c.args.block p c.requires c.read_page-page.ensures.page) (omega (arith, c.if-page-eq0.false)) (rest ys p.entries.items k c.deref-2.ensures.0) c.loop-entry-test.true c.entry-item.is in
     let old = due s (map_e angle_of (rows_in (current_at m) lv (map pair (take i xs)))) in
     let new : Meaning × List ℕ → List (ℕ × ℤ) = λ (q : Meaning × List ℕ). due s (map_e angle_of (rows_at (current_at q.0) e.value)) in
     let more : due s (map_e angle_of (rows_in (current_at m) lv (map pair (take (i + 1) xs)))) ≡ old ++ new c.args.store.now
@@ -103,12 +103,12 @@ ended m x s k i p ys so st up l past q all =
 
 pub returns-clause-count : goal.returns-clause-count
 returns-clause-count g t c =
-    let e = ended c.args.store.now.0 c.args.block c.args.speed c.covering-first.result c.loop-entry.entry-index c.read_page-page.result c.deref.result.now
-    c.requires c.read_page-page.ensures.page c.if-page-eq0.false c.covering-first.ensures.within c.covering-first.ensures.past c.deref.ensures.0 c.loop-entry-test.false in
+    let e = ended c.args.store.now.0 c.args.block c.args.speed c.covering-first.result c.loop-entry.entry-index c.read_page-page.result c.deref-2.result.now
+    c.requires c.read_page-page.ensures.page c.if-page-eq0.false c.covering-first.ensures.within c.covering-first.ensures.past c.deref-2.ensures.0 c.loop-entry-test.false in
     c.loop-entry.invariant.count ∙ ap (λ (z : List (ℕ × ℤ)). min (length c.args.out.now) (length z)) e
 
 pub returns-clause-listed : goal.returns-clause-listed
 returns-clause-listed g t c =
-    let e = ended c.args.store.now.0 c.args.block c.args.speed c.covering-first.result c.loop-entry.entry-index c.read_page-page.result c.deref.result.now
-    c.requires c.read_page-page.ensures.page c.if-page-eq0.false c.covering-first.ensures.within c.covering-first.ensures.past c.deref.ensures.0 c.loop-entry-test.false in
+    let e = ended c.args.store.now.0 c.args.block c.args.speed c.covering-first.result c.loop-entry.entry-index c.read_page-page.result c.deref-2.result.now
+    c.requires c.read_page-page.ensures.page c.if-page-eq0.false c.covering-first.ensures.within c.covering-first.ensures.past c.deref-2.ensures.0 c.loop-entry-test.false in
     c.loop-entry.invariant.listed ∙ ap (λ (z : List (ℕ × ℤ)). written z c.args.out.now) e

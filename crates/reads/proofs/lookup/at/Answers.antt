@@ -1,6 +1,9 @@
-use Rattle.std.proofs.Common.{◌≡◌, ℕ, List, ℤ, Some, None, Option, sym, refl, ap, ◌∙◌, subst, ap₂}
+use Rattle.std.proofs.Common.{◌≡◌, map, ℕ, List, ℤ, Some, None, Option, sym, refl, ap, ◌∙◌, subst, ap₂}
 use Rattle.std.specs.Option.{option_map}
 use Rattle.device.specs.Meaning.{Meaning, current_at}
+use Rattle.table.specs.declared.row.Row.{Row}
+use Rattle.table.specs.declared.around.Around.{Around}
+use Rattle.table.specs.Around.{StandsAround}
 use Rattle.table.specs.Rows.{pair_of, angle_of}
 use Rattle.table.specs.Angles.{up_to, past, angle_by, angle_at}
 use Rattle.tree.specs.Node.{map_e}
@@ -24,6 +27,10 @@ nearest-requires-in-None-default g c =
     subst (λ (q : Meaning × List ℕ). Beside (current_at q.0) c.args.speed c.descend-place.result.left) (sym c.descend-place.ensures.kept)
     (beside_left (current_at c.args.store.now.0) c.args.root.block c.args.speed (entries c.descend-place.result.leaf) _ _ c.descend-place.ensures.found)
 
+-- what stands on either side among the rows read from a leaf
+beside : (leaf : List (ℕ × ℕ)) (xs ys : List Row) (s : ℕ) (x : Around) → xs ≡ ys → map pair_of ys ≡ map_e angle_of leaf → StandsAround s (map pair_of xs) x → StandsAround s (map_e angle_of leaf) x
+beside leaf xs ys s x e q = subst (λ (rs : List (ℕ × ℤ)). StandsAround s rs x) (ap (map pair_of) e ∙ q)
+
 -- the angle by the nearest rows of the whole
 by_rows : (rows all : List (ℕ × ℤ)) (s : ℕ) (before after : Option (ℕ × ℤ)) (a : Option ℤ) → a ≡ angle_by before after s → rows ≡ all → up_to s all ≡ before → past s all ≡ after → a ≡ angle_at s rows
 by_rows rows all s before after a e q u p = e ∙ sym (ap (angle_at s) q ∙ ap₂ (λ (x y : Option (ℕ × ℤ)). angle_by x y s) u p)
@@ -35,8 +42,9 @@ returns-in-Some-Some-clause-answer g c =
     let x = c.args.root.block in
     let leaf = entries c.descend-place.result.leaf in
     let f = c.descend-place.ensures.found in
-    let up : up_to s (map_e angle_of leaf) ≡ Some (pair_of c.in-Some-Some.below) = sym c.around-below.ensures.0 ∙ ap (option_map pair_of) c.in-Some-Some.is-0 in
-    let first : past s (map_e angle_of leaf) ≡ Some (pair_of c.in-Some-Some.above) = sym c.around-below.ensures.1 ∙ ap (option_map pair_of) c.in-Some-Some.is-1 in
+    let around : StandsAround s (map_e angle_of leaf) c.of-below.result = beside leaf c.deref.result.now _ s c.of-below.result c.deref.ensures.0 c.rows_of.ensures c.of-below.ensures in
+    let up : up_to s (map_e angle_of leaf) ≡ Some (pair_of c.in-Some-Some.below) = sym around.0 ∙ ap (option_map pair_of) c.in-Some-Some.is-0 in
+    let first : past s (map_e angle_of leaf) ≡ Some (pair_of c.in-Some-Some.above) = sym around.1 ∙ ap (option_map pair_of) c.in-Some-Some.is-1 in
     by_rows _ (map_e angle_of (rows_at (current_at m) x)) s (Some (pair_of c.in-Some-Some.below)) (Some (pair_of c.in-Some-Some.above)) c.angle_by.result c.angle_by.ensures (start m c.args.root.height x c.requires).rows
     (up_by angle_of (current_at m) s x leaf _ _ f ∙ rw up refl) (past_by angle_of (current_at m) s x leaf _ _ f ∙ rw first refl)
 
@@ -48,11 +56,12 @@ returns-in_default-None-clause-answer g c =
     let leaf = entries c.descend-place.result.leaf in
     let right = c.descend-place.result.right in
     let f = c.descend-place.ensures.found in
-    let first : past s (map_e angle_of leaf) ≡ None = sym c.around-below.ensures.1 ∙ ap (option_map pair_of) c.in_default-None.is-1 in
+    let around : StandsAround s (map_e angle_of leaf) c.of-below.result = beside leaf c.deref.result.now _ s c.of-below.result c.deref.ensures.0 c.rows_of.ensures c.of-below.ensures in
+    let first : past s (map_e angle_of leaf) ≡ None = sym around.1 ∙ ap (option_map pair_of) c.in_default-None.is-1 in
     let near : past s (map_e angle_of (rows_beside (current_at m) right)) ≡ option_map pair_of c.nearest.result.above
     = sym (c.nearest.ensures.nearest.1 ∙ ap (λ (q : Meaning × List ℕ). past s (map_e angle_of (rows_beside (current_at q.0) right))) c.descend-place.ensures.kept) in
     by_rows _ _ s _ _ c.angle_by-in_default-None.result c.angle_by-in_default-None.ensures (start m c.args.root.height x c.requires).rows
-    (up_alone angle_of (current_at m) s x leaf _ _ f first ∙ sym c.around-below.ensures.0) (past_by angle_of (current_at m) s x leaf _ _ f ∙ rw first near)
+    (up_alone angle_of (current_at m) s x leaf _ _ f first ∙ sym around.0) (past_by angle_of (current_at m) s x leaf _ _ f ∙ rw first near)
 
 pub returns-in-None-default-clause-answer : goal.returns-in-None-default-clause-answer
 returns-in-None-default-clause-answer g c =
@@ -62,8 +71,9 @@ returns-in-None-default-clause-answer g c =
     let leaf = entries c.descend-place.result.leaf in
     let left = c.descend-place.result.left in
     let f = c.descend-place.ensures.found in
-    let up : up_to s (map_e angle_of leaf) ≡ None = sym c.around-below.ensures.0 ∙ ap (option_map pair_of) c.in-None-default.is-0 in
+    let around : StandsAround s (map_e angle_of leaf) c.of-below.result = beside leaf c.deref.result.now _ s c.of-below.result c.deref.ensures.0 c.rows_of.ensures c.of-below.ensures in
+    let up : up_to s (map_e angle_of leaf) ≡ None = sym around.0 ∙ ap (option_map pair_of) c.in-None-default.is-0 in
     let near : up_to s (map_e angle_of (rows_beside (current_at m) left)) ≡ option_map pair_of c.nearest-in-None-default.result.below
     = sym (c.nearest-in-None-default.ensures.nearest.0 ∙ ap (λ (q : Meaning × List ℕ). up_to s (map_e angle_of (rows_beside (current_at q.0) left))) c.descend-place.ensures.kept) in
     by_rows _ _ s _ _ c.angle_by-in-None-default.result c.angle_by-in-None-default.ensures (start m c.args.root.height x c.requires).rows
-    (up_by angle_of (current_at m) s x leaf _ _ f ∙ rw up near) (past_alone angle_of (current_at m) s x leaf _ _ f up ∙ sym c.around-below.ensures.1)
+    (up_by angle_of (current_at m) s x leaf _ _ f ∙ rw up near) (past_alone angle_of (current_at m) s x leaf _ _ f up ∙ sym around.1)

@@ -3,7 +3,7 @@ use Rattle.device.specs.Meaning.{current_at}
 use Rattle.page.specs.Block.{block_at, level_of}
 use Rattle.page.specs.View.{pair}
 use Rattle.tree.specs.Node.{map_e}
-use Rattle.tree.specs.Reads.{total}
+use Rattle.reads.specs.Summary.{summary_of}
 use Rattle.table.specs.Rows.{angle_of}
 use Rattle.reads.specs.Sound.{rows_in}
 use Rattle.reads.proofs.summing.+sum_block.Given as goal
@@ -18,5 +18,5 @@ invariant-loop-entry g l =
     let m = l.fn.store.0 in
     record {
       kept : l.store ≡ l.fn.store;
-      sum : l.sum ≡ total s.none s.joined s.value_of (map_e angle_of (rows_in (current_at m) (level_of (block_at m l.block)) (map pair (take l.entry-index l.entry-items))));
+      sum : l.sum ≡ summary_of s.summing (map_e angle_of (rows_in (current_at m) (level_of (block_at m l.block)) (map pair (take l.entry-index l.entry-items))));
     }

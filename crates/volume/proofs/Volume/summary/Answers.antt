@@ -1,7 +1,7 @@
 use Rattle.std.proofs.Common.{refl, rules, ap}
 use Rattle.counts.specs.Moves.{State}
 use Rattle.page.specs.Slot.{Root}
-use Rattle.tree.specs.Reads.{total}
+use Rattle.reads.specs.Summary.{summary_of}
 use Rattle.model.specs.Plain.Ask.{summary}
 use Rattle.model.specs.World.{Tables}
 use Rattle.volume.specs.Kept.{tables, rows_of_clone}
@@ -12,7 +12,7 @@ use Rattle.volume.proofs.Volume.summary.Goals as goal
 
 pub returns-in_err-root : goal.returns-in_err-root
 returns-in_err-root g c k =
-    let d = denied_early c.args.self.now.0 c.args.self.now.1 (summary k c.args.n) (total g.S.Summary.none g.S.Summary.joined g.S.Summary.value_of (rows_of_clone c.args.self.now c.args.n)) c.in_err-root.field-0.0 c.in_err-root.ensures in
+    let d = denied_early c.args.self.now.0 c.args.self.now.1 (summary k c.args.n) (summary_of g.S.Summary.summing (rows_of_clone c.args.self.now c.args.n)) c.in_err-root.field-0.0 c.in_err-root.ensures in
     search rules
 
 pub summary-requires : goal.summary-requires
@@ -27,4 +27,4 @@ returns g c k =
     let i = c.self.inside in
     let t : Tables = tables i.working i.committed i.generation in
     read_called c.args.self.now (t, i.store.0) (t, c.summary.new.store.0) c.args.n (c.in_ok-root.root.height, c.in_ok-root.root.block) c.self.view_is (ap (λ (q : State). (t, q.0)) c.summary.ensures.kept) c.in_ok-root.ensures.1.1
-    (total g.S.Summary.none g.S.Summary.joined g.S.Summary.value_of) c.summary.result c.summary.ensures.answer (summary k c.args.n) c.in_ok-root.ensures.0 refl (refl, refl)
+    (summary_of g.S.Summary.summing) c.summary.result c.summary.ensures.answer (summary k c.args.n) c.in_ok-root.ensures.0 refl (refl, refl)

@@ -1,7 +1,0 @@
-use Rattle.std.proofs.Common.{◌≡◌, take}
-use Rattle.tree.specs.Reads.{total}
-use Rattle.reads.proofs.Leaves.{rows}
-use Rattle.reads.proofs.summing.sum_leaf.Given as goal
-
-abbrev pub invariant-loop-entry : goal.invariant-loop-entry
-invariant-loop-entry g l = let s = g.S.Summary in l.sum ≡ total s.none s.joined s.value_of (rows (take l.entry-index l.leaf.entries.items))
