@@ -62,7 +62,7 @@ off_layout : (m : Meaning) (e : Refusal) → Lawful m → found m ≡ Err e → 
 off_layout m e w h x k = absurd (let p : ◌≡◌ {A = Result (ℕ × Table) Refusal} (Err e) (Ok x) = sym h ∙ (mount_exact m x w).1 k in let z : ◌≡◌ {A = ℕ} 0 1 = cc in omega arith)
 
 -- what mount answers, by what is found
-pub accepted : (m : Meaning) (x : ℕ × Table) (cs : List ℕ) → Lawful m → found m ≡ Ok x → Counting (m, cs) (roots_of x.1) → Accepted m x cs
+pub accepted : (m : Meaning) (x : ℕ × Table) (cs : List ℕ) → Lawful m → found m ≡ Ok x → Counting (m, cs) (roots_of x.1) → Accepted (m, cs) x
 accepted m x cs w h c =
     let k = (mount_exact m x w).0 h in
     record { found = h; kept = k; sizes = usable_to m k.usable; standing = (k.trees, k.trees); counted = counted m cs x c; long = c.long }

@@ -1,5 +1,5 @@
 -- What mount promises.
-use Rattle.std.specs.Prelude.{◌≡◌, ℕ, suc, ◌%◌, true, false, ◌⊎◌, List, length, replicate, Ok, Err, Option}
+use Rattle.std.specs.Prelude.{◌≡◌, ℕ, suc, ◌%◌, true, false, ◌⊎◌, length, replicate, Ok, Err, Option}
 use Rattle.device.specs.Meaning.{Meaning, Lawful, words, written, blocks_of, current_at}
 use Rattle.page.specs.Block.{block_at}
 use Rattle.page.specs.Slot.{Table, slot_words, SlotFits}
@@ -47,14 +47,14 @@ pub record Blank (q : State) : Type 0 where
 abbrev pub Countless : Meaning → Refusal → Type 0
 Countless m e = ((e ≡ Shape) × (sizes (blocks_of m) m.width ≡ false)) ⊎ ((e ≡ NoMemory) × (sizes (blocks_of m) m.width ≡ true))
 
--- a volume that mount made, with this slot and these counts
-pub record Accepted (m : Meaning) (x : ℕ × Table) (cs : List ℕ) : Type 0 where
-  pub found : found m ≡ Ok x
-  pub kept : Kept m x
-  pub sizes : sizes (blocks_of m) m.width ≡ true
-  pub standing : Standing (fresh x) m
-  pub counted : Counted (block_at m) cs (rootings (fresh x))
-  pub long : length cs ≡ blocks_of m
+-- the store of a volume that mount made, with this slot
+pub record Accepted (q : State) (x : ℕ × Table) : Type 0 where
+  pub found : found q.0 ≡ Ok x
+  pub kept : Kept q.0 x
+  pub sizes : sizes (blocks_of q.0) q.0.width ≡ true
+  pub standing : Standing (fresh x) q.0
+  pub counted : Counted (block_at q.0) q.1 (rootings (fresh x))
+  pub long : length q.1 ≡ blocks_of q.0
 
 -- what is found is refused, and the image is off the layout
 pub record Off (m : Meaning) (e : Refusal) : Type 0 where

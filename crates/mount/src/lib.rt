@@ -68,7 +68,7 @@ fn count_clones<D: Device>(store: &mut Store<D>) -> Result<Slot, Refusal>
 pub fn mount_over<D: Device>(device: D, counts: Counts) -> Result<Mounted<D>, (D, Refusal)>
     requires { Blank (D.Device.meaning device, counts.of.items) }
     ensures kept { MatchResult result (λ v. v.store.0 ≡ D.Device.meaning device) (λ e. D.Device.meaning e.0 ≡ D.Device.meaning device) }
-    ensures answer { MatchResult result (λ v. Accepted (D.Device.meaning device) (slot_of v.slot) v.store.1) (λ e. Off (D.Device.meaning device) e.1) }
+    ensures answer { MatchResult result (λ v. Accepted v.store (slot_of v.slot)) (λ e. Off (D.Device.meaning device) e.1) }
 {
     let mut store = Store::new(device, counts);
     match count_clones(&mut store) {
@@ -83,7 +83,7 @@ pub fn mount_over<D: Device>(device: D, counts: Counts) -> Result<Mounted<D>, (D
 // Mounts the volume that a device holds, or gives the device back with the reason why it holds none.
 pub fn mount_store<D: Device>(heap: Global, device: D) -> Result<Mounted<D>, (D, Refusal)>
     ensures kept { MatchResult result (λ v. v.store.0 ≡ D.Device.meaning device) (λ e. D.Device.meaning e.0 ≡ D.Device.meaning device) }
-    ensures answer { MatchResult result (λ v. Accepted (D.Device.meaning device) (slot_of v.slot) v.store.1) (λ e. Refused (D.Device.meaning device) e.1) }
+    ensures answer { MatchResult result (λ v. Accepted v.store (slot_of v.slot)) (λ e. Refused (D.Device.meaning device) e.1) }
 {
     match no_counts(heap, &device) {
         Ok(counts) => mount_over(device, counts),

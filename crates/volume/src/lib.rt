@@ -128,7 +128,7 @@ impl<D: Device> Volume<D> {
 
     // The volume that was mounted.
     fn over(mounted: Mounted<D>) -> Volume<D>
-        requires { Accepted mounted.store.0 (slot_of mounted.slot) mounted.store.1 }
+        requires { Accepted mounted.store (slot_of mounted.slot) }
         ensures { result ≡ (fresh (slot_of mounted.slot), mounted.store.0) }
     {
         let Mounted { store, slot } = mounted;

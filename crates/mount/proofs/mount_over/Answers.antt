@@ -5,6 +5,7 @@ use Rattle.counts.specs.Moves.{State}
 use Rattle.model.specs.Reach.{roots_of}
 use Rattle.model.specs.World.{found}
 use Rattle.mount.specs.Counting.{Counting}
+use Rattle.mount.specs.Mounts.{Accepted}
 use Rattle.mount.proofs.Exact.{accepted, refused}
 use Rattle.mount.proofs.mount_over.Goals as goal
 
@@ -15,7 +16,8 @@ returns-in-Ok-clause-answer g c =
     let cs = c.count_clones.new.store.1 in
     let e : c.new-store.result.0 ≡ m = ap (λ (q : State). q.0) c.new-store.ensures in
     let a = c.in-Ok.ensures.answer in
-    accepted m x cs (g.D.Device.fit c.args.device) (ap found (sym e) ∙ a.0) (subst (λ m. Counting (m, cs) (roots_of x.1)) (c.count_clones.ensures.kept ∙ e) a.1)
+    subst (λ m. Accepted (m, cs) x) (sym (c.count_clones.ensures.kept ∙ e))
+    (accepted m x cs (g.D.Device.fit c.args.device) (ap found (sym e) ∙ a.0) (subst (λ m. Counting (m, cs) (roots_of x.1)) (c.count_clones.ensures.kept ∙ e) a.1))
 
 pub returns-in-Err-clause-answer : goal.returns-in-Err-clause-answer
 returns-in-Err-clause-answer g c =
