@@ -70,7 +70,7 @@ pub record Linkable (q : State) (gs : List ℕ) (n child made : Block) : Type 0 
   pub two : 2 ≤ length gs
   pub wide : 32 ≤ q.0.width
   pub left : 2 ≤ q.0.left
-  pub places : Open q gs 0
+  pub places : Open q gs
   pub level : made.level ≡ child.level
   pub above : suc child.level ≡ n.level
 

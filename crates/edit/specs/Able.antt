@@ -43,13 +43,13 @@ pub record Made (q q' : State) (gs : List ℕ) (s a l : ℕ) (es : List (ℕ × 
   pub state : q' ≡ run (moves gs s a l es) q
   pub laid : Laid q.0.width (moves gs s a l es)
 
--- the places j and j + 1 of the grant are two free blocks on the device, which has few
-pub record Open (q : State) (gs : List ℕ) (j : ℕ) : Type 0 where
-  pub left_on : slice_index gs j < blocks_of q.0
-  pub left_in : slice_index gs j < length q.1
-  pub left_free : slice_index q.1 (slice_index gs j) ≡ 0
-  pub right_on : slice_index gs (j + 1) < blocks_of q.0
-  pub right_in : slice_index gs (j + 1) < length q.1
-  pub right_free : slice_index q.1 (slice_index gs (j + 1)) ≡ 0
-  pub apart : slice_index gs j ≢ slice_index gs (j + 1)
+-- the next two places of the grant are free blocks on the device, which has few
+pub record Open (q : State) (gs : List ℕ) : Type 0 where
+  pub left_on : slice_index gs 0 < blocks_of q.0
+  pub left_in : slice_index gs 0 < length q.1
+  pub left_free : slice_index q.1 (slice_index gs 0) ≡ 0
+  pub right_on : slice_index gs 1 < blocks_of q.0
+  pub right_in : slice_index gs 1 < length q.1
+  pub right_free : slice_index q.1 (slice_index gs 1) ≡ 0
+  pub apart : slice_index gs 0 ≢ slice_index gs 1
   pub few : length q.1 ≤ 4096

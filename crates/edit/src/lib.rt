@@ -50,7 +50,7 @@ fn link_kids<D: Device>(
     made: &Page,
     speed: u32,
 ) -> Kids
-    requires places { Open store.old grant.old 0 }
+    requires places { Open store.old grant.old }
     requires two { 2 ≤ length grant.old }
     requires left { 2 ≤ store.old.0.left }
     requires level { (child.now.level < 5) × (made.now.level ≡ child.now.level) }

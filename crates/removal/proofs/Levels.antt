@@ -64,7 +64,7 @@ pub record Linkable (q : State) (hs : List ℕ) : Type 0 where
   pub wide : 32 ≤ q.0.width
   pub left : 2 ≤ q.0.left
   pub two : 2 ≤ length hs
-  pub places : Open q hs 0
+  pub places : Open q hs
 
 module _ (m : Meaning) (cs : List ℕ) (n : Block) (s l : ℕ) (es : List (ℕ × Tree ℕ ℕ l)) (p : Ready (m, cs) n s (suc l) es) (q₁ : State) (f : Filled) (F : Filling (m, cs) q₁ s l es f) where
   abbrev S : Split s l es

@@ -114,7 +114,7 @@ fn link_parts<D: Device>(
     filled: &Filled,
     made: &Page,
 ) -> Page
-    requires places { Open store.old grant.old 0 }
+    requires places { Open store.old grant.old }
     requires two { 2 ≤ length grant.old }
     requires left { 2 ≤ store.old.0.left }
     requires level { made.now.level < 5 }
