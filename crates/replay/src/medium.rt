@@ -1,218 +1,198 @@
-// What outlasts a cut of the power: the words below the devices.
-ghost use Rattle.std.specs.Prelude.{◌≤◌};
-
-use super::line::{Patch, Pile};
-use super::session::{End, run};
+// Devices whose power fails, and the words below them.
+use super::line::{Cut, Patch};
+use super::stop::Stop;
 use check_layer::Check;
+use device::Device;
 use log_device::Log;
-use memory::Memory;
+use memory::{Memory, Slices};
 use mirror::Mirror;
 use std::alloc::{AllocError, Global};
 use word::Kind;
 
-// What is left of a block that was written twice.
-const GARBAGE: u32 = 0xdead_dead;
-
 // A mirror of (check over memory) and (check over log).
 type Mirrored<'a> = Mirror<Check<Memory<'a>>, Check<Log<'a>>>;
 
-// The slices of a memory, and the image of a log if the devices are a mirror.
+// What is left of a block that was written twice.
+const GARBAGE: u32 = 0xdead_dead;
+
+// What became of a patch.
+#[derive(Clone, Copy)]
+pub(crate) enum Patched {
+    Done,
+    // There is no such block, or it has fewer words.
+    Misfit,
+    // The devices are no memory.
+    OutOfTurn,
+}
+
+pub(crate) trait Medium: Device + Drop + Sized {
+    // The devices, opened again after a cut of the power.
+    fn restart(self, heap: Global, cut: Cut) -> Result<Self, Stop>;
+
+    // The devices, opened again over other words where these are for a script to write.
+    fn overwrite(self, _: &Patch) -> Result<(Self, Patched), Stop> {
+        Ok((self, Patched::OutOfTurn))
+    }
+}
+
+impl<'a> Medium for Memory<'a> {
+    fn restart(mut self, _: Global, cut: Cut) -> Result<Memory<'a>, Stop> {
+        let width = self.width() as usize;
+        if cut == Cut::New {
+            self.flush();
+        }
+        let Slices {
+            current,
+            persisted,
+            marks,
+        } = self.into_slices();
+        if cut == Cut::Torn {
+            tear(persisted, marks, width);
+        }
+        Ok(Memory::open(current, persisted, marks, width)?)
+    }
+
+    fn overwrite(self, patch: &Patch) -> Result<(Memory<'a>, Patched), Stop> {
+        let width = self.width() as usize;
+        let Slices {
+            current,
+            persisted,
+            marks,
+        } = self.into_slices();
+        let patched = put(persisted, width, patch);
+        Ok((Memory::open(current, persisted, marks, width)?, patched))
+    }
+}
+
+// The blocks that were written twice since the flush become garbage.
+fn tear(persisted: &mut [u32], marks: &[u8], width: usize) {
+    for (words, mark) in persisted.chunks_exact_mut(width.max(1)).zip(marks) {
+        if *mark >= 2 {
+            words.fill(GARBAGE);
+        }
+    }
+}
+
+// Overwrites the first words of a block.
+fn put(persisted: &mut [u32], width: usize, patch: &Patch) -> Patched {
+    let block = persisted
+        .chunks_exact_mut(width.max(1))
+        .nth(patch.block as usize);
+    let Some(words) = block else {
+        return Patched::Misfit;
+    };
+    let Some(first) = words.get_mut(..patch.words.len()) else {
+        return Patched::Misfit;
+    };
+    first.copy_from_slice(&patch.words);
+    Patched::Done
+}
+
+impl<'a> Medium for Log<'a> {
+    fn restart(mut self, heap: Global, cut: Cut) -> Result<Log<'a>, Stop> {
+        let blocks = self.blocks();
+        let width = self.width() as usize;
+        if cut == Cut::New {
+            self.flush();
+        }
+        Ok(Log::open(heap, self.into_image(), blocks, width)?)
+    }
+}
+
+impl<D: Medium> Medium for Check<D> {
+    fn restart(self, heap: Global, cut: Cut) -> Result<Check<D>, Stop> {
+        let below = self.into_below().restart(heap, cut)?;
+        Ok(Check::build(below)?)
+    }
+}
+
+impl<A: Medium, B: Medium> Medium for Mirror<A, B> {
+    fn restart(self, heap: Global, cut: Cut) -> Result<Mirror<A, B>, Stop> {
+        let (first, second) = self.into_parts();
+        let first = first.restart(heap, cut)?;
+        let second = second.restart(heap, cut)?;
+        Ok(Mirror::build(first, second)?)
+    }
+}
+
+// The words and marks of a memory.
 #[derive(Drop)]
-pub(crate) struct Medium {
+pub(crate) struct Words {
     current: Vec<u32>,
     persisted: Vec<u32>,
     marks: Vec<u8>,
-    image: Vec<u32>,
-    pile: Pile,
-    // The words of a block of the memory and the log.
     width: usize,
-    heap: Global,
 }
 
-impl Medium {
-    // The words of devices that were never written. There are none for more than 4,096 blocks, for more than 64 words a block,
-    // and for a log of more than 1,000,000 records.
-    pub(crate) fn blank(heap: Global, pile: Pile) -> Result<Option<Medium>, AllocError> {
-        match pile {
-            Pile::Memory { blocks, width } => {
-                if blocks > 4_096 || width > 64 {
-                    return Ok(None);
-                }
-                let image = Vec::new(heap);
-                let medium = Medium::over(heap, pile, blocks as usize, width as usize, image)?;
-                Ok(Some(medium))
-            },
-            Pile::Mirror {
-                blocks,
-                width,
-                records,
-            } => {
-                if blocks > 4_096 || width > 63 || records > 1_000_000 {
-                    return Ok(None);
-                }
-                let width = width as usize + 1;
-                let mut image = vec![in heap; 0u32; 1 + records as usize * (1 + width)]?;
-                image[0] = Kind::Log.word(0);
-                let medium = Medium::over(heap, pile, blocks as usize, width, image)?;
-                Ok(Some(medium))
-            },
+impl Words {
+    // Those of a memory that was never written, of at most 4,096 blocks of at most 64 words.
+    pub(crate) fn blank(heap: Global, blocks: u32, width: u32) -> Result<Words, Stop> {
+        if blocks > 4_096 || width > 64 {
+            return Err(Stop::Shape);
         }
-    }
-
-    fn over(
-        heap: Global,
-        pile: Pile,
-        blocks: usize,
-        width: usize,
-        image: Vec<u32>,
-    ) -> Result<Medium, AllocError>
-        requires blocks { blocks ≤ 4096 }
-        requires width { width ≤ 64 }
-    {
-        Ok(Medium {
+        let blocks = blocks as usize;
+        let width = width as usize;
+        Ok(Words {
             current: vec![in heap; 0u32; blocks * width]?,
             persisted: vec![in heap; 0u32; blocks * width]?,
             marks: vec![in heap; 0u8; blocks]?,
-            image,
-            pile,
             width,
-            heap,
         })
     }
 
-    // Opens the memory.
-    fn open_memory(&mut self) -> Option<Memory<'_>> {
+    pub(crate) fn open(&mut self) -> Result<Memory<'_>, Stop> {
         let width = self.width;
-        let Ok(memory) = Memory::open(
+        Ok(Memory::open(
             &mut self.current,
             &mut self.persisted,
             &mut self.marks,
             width,
-        ) else {
-            return None;
-        };
-        Some(memory)
+        )?)
     }
+}
 
-    // Opens the memory and the log, and builds the layers over them.
-    fn open_mirror(&mut self) -> Option<Mirrored<'_>> {
-        let width = self.width;
-        let heap = self.heap;
-        let blocks = self.pile.blocks();
-        let Ok(memory) = Memory::open(
-            &mut self.current,
-            &mut self.persisted,
-            &mut self.marks,
-            width,
-        ) else {
-            return None;
-        };
-        let Ok(log) = Log::open(heap, &mut self.image, blocks, width) else {
-            return None;
-        };
-        let Ok(first) = Check::build(memory) else {
-            return None;
-        };
-        let Ok(second) = Check::build(log) else {
-            return None;
-        };
-        let Ok(mirror) = Mirror::build(first, second) else {
-            return None;
-        };
-        Some(mirror)
-    }
+// What lies below a mirror of (check over memory) and (check over log).
+#[derive(Drop)]
+pub(crate) struct Sides {
+    words: Words,
+    image: Vec<u32>,
+    blocks: u32,
+}
 
-    // Opens the devices, and runs the lines of a text over them: how that ended, and the text that is left. Fresh devices
-    // are formatted.
-    pub(crate) fn power_on<'t>(
-        &mut self,
-        out: &mut String,
-        fresh: bool,
-        text: &'t [u8],
-    ) -> Result<(End, &'t [u8]), AllocError> {
-        match self.pile {
-            Pile::Memory { .. } => self.run_memory(out, fresh, text),
-            Pile::Mirror { .. } => self.run_mirror(out, fresh, text),
+impl Sides {
+    // Those of a mirror that was never written, of blocks of so many words, with a log of at most 1,000,000 records.
+    pub(crate) fn blank(
+        heap: Global,
+        blocks: u32,
+        width: u32,
+        records: u32,
+    ) -> Result<Sides, Stop> {
+        if width > 63 || records > 1_000_000 {
+            return Err(Stop::Shape);
         }
+        // The word of the check, and in a log the word of the block.
+        let mut image = vec![in heap; 0u32; 1 + records as usize * (width as usize + 2)]?;
+        image[0] = Kind::Log.word(0);
+        Ok(Sides {
+            words: Words::blank(heap, blocks, width + 1)?,
+            image,
+            blocks,
+        })
     }
 
-    fn run_memory<'t>(
-        &mut self,
-        out: &mut String,
-        fresh: bool,
-        text: &'t [u8],
-    ) -> Result<(End, &'t [u8]), AllocError> {
-        let heap = self.heap;
-        let Some(device) = self.open_memory() else {
-            writeln!(out, "refused 2")?;
-            return Ok((End::Done, text));
-        };
-        let (_, end, rest) = run(heap, out, device, fresh, text)?;
-        Ok((end, rest))
+    pub(crate) fn open(&mut self, heap: Global) -> Result<Mirrored<'_>, Stop> {
+        let blocks = self.blocks;
+        let width = self.words.width;
+        let log = Log::open(heap, &mut self.image, blocks, width)?;
+        let memory = self.words.open()?;
+        mirrored(memory, log)
     }
+}
 
-    fn run_mirror<'t>(
-        &mut self,
-        out: &mut String,
-        fresh: bool,
-        text: &'t [u8],
-    ) -> Result<(End, &'t [u8]), AllocError> {
-        let heap = self.heap;
-        let Some(device) = self.open_mirror() else {
-            writeln!(out, "refused 2")?;
-            return Ok((End::Done, text));
-        };
-        let (_, end, rest) = run(heap, out, device, fresh, text)?;
-        Ok((end, rest))
-    }
-
-    // Makes of the words what the end of a session says: does another follow?
-    pub(crate) fn settle(&mut self, out: &mut String, end: End) -> Result<bool, AllocError> {
-        match end {
-            End::Done => return Ok(false),
-            End::Lost => (),
-            End::Torn => self.tear(),
-            End::Patched(patch) => {
-                let answer = match self.pile {
-                    Pile::Memory { .. } => {
-                        if self.overwrite(&patch) {
-                            "ok"
-                        } else {
-                            "bad line"
-                        }
-                    },
-                    Pile::Mirror { .. } => "out of turn",
-                };
-                writeln!(out, "{answer}")?;
-            },
-        }
-        Ok(true)
-    }
-
-    // The blocks of the memory that were written twice since the flush become garbage.
-    fn tear(&mut self) {
-        let width = self.width.max(1);
-        for (words, mark) in self.persisted.chunks_exact_mut(width).zip(&self.marks) {
-            if *mark >= 2 {
-                words.fill(GARBAGE);
-            }
-        }
-    }
-
-    // Overwrites the first words of a block of the memory; false where there is no such block, or it has fewer words.
-    fn overwrite(&mut self, patch: &Patch) -> bool {
-        let width = self.width.max(1);
-        let Some(words) = self
-            .persisted
-            .chunks_exact_mut(width)
-            .nth(patch.block as usize)
-        else {
-            return false;
-        };
-        let Some(first) = words.get_mut(..patch.words.len()) else {
-            return false;
-        };
-        first.copy_from_slice(&patch.words);
-        true
-    }
+// A mirror of two check layers.
+fn mirrored<A: Device + Drop, B: Device + Drop>(
+    first: A,
+    second: B,
+) -> Result<Mirror<Check<A>, Check<B>>, Stop> {
+    Ok(Mirror::build(Check::build(first)?, Check::build(second)?)?)
 }
