@@ -3,34 +3,16 @@ use super::cost::Cost;
 use super::tally::Tally;
 use anyhow::anyhow;
 use device::Device;
-use memory::Memory;
+use medium::Words;
 use model::Refusal;
-use std::alloc::{AllocError, Global};
+use std::alloc::Global;
 use std::time::Instant;
 use std::{fmt, io};
 use volume::Volume;
 
-const BLOCKS: usize = 4_096;
+const BLOCKS: u32 = 4_096;
 
-const WIDTH: usize = 32;
-
-// The words and marks of the memory.
-#[derive(Drop)]
-struct Medium {
-    current: Vec<u32>,
-    persisted: Vec<u32>,
-    marks: Vec<u8>,
-}
-
-impl Medium {
-    fn new(heap: Global) -> Result<Medium, AllocError> {
-        Ok(Medium {
-            current: vec![in heap; 0u32; BLOCKS * WIDTH]?,
-            persisted: vec![in heap; 0u32; BLOCKS * WIDTH]?,
-            marks: vec![in heap; 0u8; BLOCKS]?,
-        })
-    }
-}
+const WIDTH: u32 = 32;
 
 #[derive(Clone, Copy)]
 enum Call {
@@ -185,18 +167,10 @@ impl Bench<'_> {
 
     // Measures each call in memory.
     pub(crate) fn run(&self) -> anyhow::Result<()> {
-        let mut medium = Medium::new(self.rt.alloc())?;
-        let Ok(memory) = Memory::open(
-            &mut medium.current,
-            &mut medium.persisted,
-            &mut medium.marks,
-            WIDTH,
-        ) else {
-            return Err(anyhow!("the slices are not a memory's"));
-        };
+        let mut words = Words::blank(self.rt.alloc(), BLOCKS, WIDTH)?;
         let rows = self.rows;
         println!(self.rt; "{rows} rows:")?;
-        self.run_on(memory)?;
+        self.run_on(words.open()?)?;
         Ok(())
     }
 }

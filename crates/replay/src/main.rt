@@ -2,13 +2,12 @@
 #![tactic(auto)]
 
 mod line;
-mod medium;
+mod power;
 mod session;
 mod stop;
 
-use anyhow::anyhow;
 use line::{Lines, Pile, parse_pile};
-use medium::{Sides, Words};
+use medium::{Fault, Sides, Words};
 use session::replay;
 use std::alloc::Global;
 use std::io::Read;
@@ -44,7 +43,7 @@ fn run(rt: &HostRuntime) -> anyhow::Result<()> {
     print!(rt; "{out}")?;
     match ended {
         Ok(()) => Ok(()),
-        Err(Stop::NoMemory) => Err(anyhow!("no memory")),
+        Err(Stop::Unmade(Fault::NoMemory)) => Err(Fault::NoMemory.into()),
         Err(stop) => {
             println!(rt; "{stop}")?;
             Ok(())

@@ -1,6 +1,6 @@
 // A script's calls and cuts of the power, one after the other.
 use super::line::{Cut, Line, Lines, Patch, parse};
-use super::medium::{Medium, Patched};
+use super::power::{Patched, Restart};
 use super::stop::Stop;
 use device::Device;
 use history::{Answer, Ask, Call, Denied, Machine, perform};
@@ -92,7 +92,7 @@ fn sum_up<S: Shown, D: Device + Drop>(
 }
 
 // The power fails.
-fn cut<D: Medium>(
+fn cut<D: Restart>(
     heap: Global,
     out: &mut String,
     machine: Machine<D>,
@@ -103,7 +103,7 @@ fn cut<D: Medium>(
 }
 
 // A device without power gets other words.
-fn overwrite<D: Medium>(out: &mut String, device: D, patch: &Patch) -> Result<Machine<D>, Stop> {
+fn overwrite<D: Restart>(out: &mut String, device: D, patch: &Patch) -> Result<Machine<D>, Stop> {
     let (device, patched) = device.overwrite(patch)?;
     match patched {
         Patched::Done => writeln!(out, "ok")?,
@@ -114,7 +114,7 @@ fn overwrite<D: Medium>(out: &mut String, device: D, patch: &Patch) -> Result<Ma
 }
 
 // Does what a line says.
-fn take<D: Medium>(
+fn take<D: Restart>(
     heap: Global,
     out: &mut String,
     machine: Machine<D>,
@@ -145,7 +145,7 @@ fn take<D: Medium>(
 }
 
 // Formats the devices, does what the lines say, and gives the devices back.
-pub(crate) fn replay<D: Medium>(
+pub(crate) fn replay<D: Restart>(
     heap: Global,
     out: &mut String,
     device: D,
