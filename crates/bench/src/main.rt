@@ -2,16 +2,17 @@
 // are made in a second.
 #![tactic(auto)]
 
+mod cost;
 mod measure;
 mod tally;
 
-use measure::measure;
+use measure::Bench;
 use std::env;
 
 fn run(rt: &HostRuntime) -> anyhow::Result<()> {
     let timed = env::args(rt)?.any(|arg| arg.as_str() == "time");
     for rows in [100, 1_000, 10_000] {
-        measure(rt, rows, timed)?;
+        Bench { rt, rows, timed }.run()?;
     }
     Ok(())
 }

@@ -1,35 +1,18 @@
 // The calls that are measured.
+use super::cost::Cost;
 use super::tally::Tally;
 use anyhow::anyhow;
 use device::Device;
-use memory::Memory;
+use medium::Words;
 use model::Refusal;
-use std::alloc::{AllocError, Global};
-use std::time::{Duration, Instant};
+use std::alloc::Global;
+use std::time::Instant;
 use std::{fmt, io};
 use volume::Volume;
 
-const BLOCKS: usize = 4_096;
+const BLOCKS: u32 = 4_096;
 
-const WIDTH: usize = 32;
-
-// The words and marks of the memory.
-#[derive(Drop)]
-struct Medium {
-    current: Vec<u32>,
-    persisted: Vec<u32>,
-    marks: Vec<u8>,
-}
-
-impl Medium {
-    fn new(heap: Global) -> Result<Medium, AllocError> {
-        Ok(Medium {
-            current: vec![in heap; 0u32; BLOCKS * WIDTH]?,
-            persisted: vec![in heap; 0u32; BLOCKS * WIDTH]?,
-            marks: vec![in heap; 0u8; BLOCKS]?,
-        })
-    }
-}
+const WIDTH: u32 = 32;
 
 #[derive(Clone, Copy)]
 enum Call {
@@ -40,13 +23,37 @@ enum Call {
     Clone,
 }
 
+const CALLS: [Call; 4] = [Call::Get, Call::At, Call::Put, Call::Clone];
+
 impl Call {
-    fn name(self) -> &'static str {
+    // Makes the call for the i-th time, on a clone of so many rows.
+    fn make<D: Device>(self, volume: &mut Volume<D>, rows: u32, i: u32) -> Result<(), Refusal> {
+        let speed = speed_of(i % rows.max(1));
         match self {
-            Call::Get => "get",
-            Call::At => "at",
-            Call::Put => "put",
-            Call::Clone => "clone, delete",
+            Call::Get => {
+                volume.get(0, speed)?;
+                Ok(())
+            },
+            Call::At => {
+                volume.at(0, i % 10_000)?;
+                Ok(())
+            },
+            Call::Put => volume.put(0, speed, angle_of(i)),
+            Call::Clone => {
+                volume.clone_to(0, 1)?;
+                volume.delete(1)
+            },
+        }
+    }
+}
+
+impl fmt::Display for Call {
+    fn fmt<W: fmt::Write>(&self, f: &mut fmt::Formatter<W>) -> fmt::Result {
+        match self {
+            Call::Get => write!(f, "get"),
+            Call::At => write!(f, "at"),
+            Call::Put => write!(f, "put"),
+            Call::Clone => write!(f, "clone, delete"),
         }
     }
 }
@@ -54,58 +61,14 @@ impl Call {
 // How often each call is made.
 const TIMES: u32 = 1_000;
 
-// How many blocks were read and written, by so many calls.
-#[derive(Clone, Copy)]
-struct Cost {
-    read: u64,
-    written: u64,
-    calls: u32,
-}
-
-// A number, to two places.
-#[derive(Clone, Copy)]
-struct Average {
-    sum: u64,
-    of: u32,
-}
-
-impl fmt::Display for Average {
-    fn fmt<W: fmt::Write>(&self, f: &mut fmt::Formatter<W>) -> fmt::Result {
-        let hundredths = self.sum.saturating_mul(100) / u64::from(self.of.max(1));
-        let whole = hundredths / 100;
-        let part = hundredths % 100;
-        write!(f, "{whole}.{part:02}")
-    }
-}
-
 // The speed of the i-th row; the first 10,000 differ.
 fn speed_of(i: u32) -> u32 {
     (i % 10_000) * 7_919 % 10_000
 }
 
-// Makes the call for the i-th time, on a clone of so many rows.
-fn make<D: Device>(
-    volume: &mut Volume<Tally<D>>,
-    call: Call,
-    rows: u32,
-    i: u32,
-) -> Result<(), Refusal> {
-    let speed = speed_of(i % rows.max(1));
-    match call {
-        Call::Get => {
-            volume.get(0, speed)?;
-            Ok(())
-        },
-        Call::At => {
-            volume.at(0, i % 10_000)?;
-            Ok(())
-        },
-        Call::Put => volume.put(0, speed, (i % 9_000) as i32),
-        Call::Clone => {
-            volume.clone_to(0, 1)?;
-            volume.delete(1)
-        }
-    }
+// An angle that is put for the i-th time.
+fn angle_of(i: u32) -> i32 {
+    (i % 9_000) as i32
 }
 
 // Mounts the volume that a device holds.
@@ -118,13 +81,12 @@ fn mount<D: Device + Drop>(heap: Global, device: Tally<D>) -> anyhow::Result<Vol
 
 // A committed volume whose clone 0 has so many rows.
 fn fill<D: Device + Drop>(heap: Global, device: Tally<D>, rows: u32) -> anyhow::Result<Tally<D>> {
-    let Ok(volume) = Volume::format(heap, device) else {
+    let Ok(mut volume) = Volume::format(heap, device) else {
         return Err(anyhow!("the memory cannot be formatted"));
     };
-    let mut volume = volume;
     volume.create(0)?;
     for i in 0..rows {
-        volume.put(0, speed_of(i), (i % 9_000) as i32)?;
+        volume.put(0, speed_of(i), angle_of(i))?;
     }
     let Ok(sealed) = volume.seal() else {
         return Err(anyhow!("the volume is not sealed"));
@@ -132,103 +94,83 @@ fn fill<D: Device + Drop>(heap: Global, device: Tally<D>, rows: u32) -> anyhow::
     Ok(sealed.finish().into_device())
 }
 
-// How many a second, if they took so long.
-fn per_second(calls: u32, spent: Duration) -> u128 {
-    u128::from(calls) * 1_000_000 / spent.as_micros().max(1)
+// A measurement on a clone of so many rows.
+#[derive(Clone, Copy)]
+pub(crate) struct Bench<'r> {
+    pub(crate) rt: &'r HostRuntime,
+    pub(crate) rows: u32,
+    // Are the calls a second printed too?
+    pub(crate) timed: bool,
 }
 
-fn print_cost(rt: &HostRuntime, name: &str, cost: Cost, spent: Option<Duration>) -> io::Result<()> {
-    let read = Average {
-        sum: cost.read,
-        of: cost.calls,
-    };
-    let written = Average {
-        sum: cost.written,
-        of: cost.calls,
-    };
-    print!(rt; "    {name}: {read} blocks read, {written} written")?;
-    if let Some(spent) = spent {
-        let rate = per_second(cost.calls, spent);
-        print!(rt; ", {rate} a second")?;
+impl Bench<'_> {
+    fn print<N: fmt::Display + Drop>(&self, call: N, cost: Cost) -> io::Result<()> {
+        print!(self.rt; "    {call}: {cost}")?;
+        if self.timed {
+            let rate = cost.rate();
+            print!(self.rt; ", {rate} a second")?;
+        }
+        println!(self.rt; "")
     }
-    println!(rt; "")
-}
 
-// Mounts the device once, and prints what that costs: how many blocks were read.
-fn measure_mount<D: Device + Drop>(
-    rt: &HostRuntime,
-    device: Tally<D>,
-    timed: bool,
-) -> anyhow::Result<(Tally<D>, u64)> {
-    let mut device = device;
-    device.reset();
-    let start = Instant::now(rt)?;
-    let device = mount(rt.alloc(), device)?.into_device();
-    let spent = start.elapsed(rt)?;
-    let read = device.read;
-    let cost = Cost {
-        read,
-        written: device.written,
-        calls: 1,
-    };
-    print_cost(rt, "mount", cost, timed.then_some(spent))?;
-    Ok((device, read))
-}
-
-// Makes a call again and again on a volume that a mount of so many reads gives, and prints what it costs.
-fn measure_call<D: Device + Drop>(
-    rt: &HostRuntime,
-    device: Tally<D>,
-    call: Call,
-    rows: u32,
-    mounting: u64,
-    timed: bool,
-) -> anyhow::Result<Tally<D>> {
-    let mut device = device;
-    device.reset();
-    let mut volume = mount(rt.alloc(), device)?;
-    let start = Instant::now(rt)?;
-    for i in 0..TIMES {
-        make(&mut volume, call, rows, i)?;
+    // Mounts the device once, and prints what that costs: how many blocks were read.
+    fn mount<D: Device + Drop>(&self, mut device: Tally<D>) -> anyhow::Result<(Tally<D>, u64)> {
+        device.reset();
+        let start = Instant::now(self.rt)?;
+        let device = mount(self.rt.alloc(), device)?.into_device();
+        let spent = start.elapsed(self.rt)?;
+        let read = device.read;
+        let cost = Cost {
+            read,
+            written: device.written,
+            calls: 1,
+            spent,
+        };
+        self.print("mount", cost)?;
+        Ok((device, read))
     }
-    let spent = start.elapsed(rt)?;
-    let device = volume.into_device();
-    let cost = Cost {
-        read: device.read.saturating_sub(mounting),
-        written: device.written,
-        calls: TIMES,
-    };
-    print_cost(rt, call.name(), cost, timed.then_some(spent))?;
-    Ok(device)
-}
 
-// Measures each call on a clone of so many rows, and gives the device back.
-fn measure_on<D: Device + Drop>(
-    rt: &HostRuntime,
-    device: D,
-    rows: u32,
-    timed: bool,
-) -> anyhow::Result<Tally<D>> {
-    let device = fill(rt.alloc(), Tally::new(device), rows)?;
-    let (mut device, mounting) = measure_mount(rt, device, timed)?;
-    for call in [Call::Get, Call::At, Call::Put, Call::Clone] {
-        device = measure_call(rt, device, call, rows, mounting, timed)?;
+    // Makes a call again and again on a volume that a mount of so many reads gives, and prints what it costs.
+    fn repeat<D: Device + Drop>(
+        &self,
+        mut device: Tally<D>,
+        call: Call,
+        mounting: u64,
+    ) -> anyhow::Result<Tally<D>> {
+        device.reset();
+        let mut volume = mount(self.rt.alloc(), device)?;
+        let start = Instant::now(self.rt)?;
+        for i in 0..TIMES {
+            call.make(&mut volume, self.rows, i)?;
+        }
+        let spent = start.elapsed(self.rt)?;
+        let device = volume.into_device();
+        let cost = Cost {
+            read: device.read.saturating_sub(mounting),
+            written: device.written,
+            calls: TIMES,
+            spent,
+        };
+        self.print(call, cost)?;
+        Ok(device)
     }
-    Ok(device)
-}
 
-// Measures each call in memory, on a clone of so many rows.
-pub(crate) fn measure(rt: &HostRuntime, rows: u32, timed: bool) -> anyhow::Result<()> {
-    let mut medium = Medium::new(rt.alloc())?;
-    let Ok(memory) = Memory::open(
-        &mut medium.current,
-        &mut medium.persisted,
-        &mut medium.marks,
-        WIDTH,
-    ) else {
-        return Err(anyhow!("the slices are not a memory's"));
-    };
-    println!(rt; "{rows} rows:")?;
-    measure_on(rt, memory, rows, timed)?;
-    Ok(())
+    // Measures each call, and gives the device back.
+    fn run_on<D: Device + Drop>(&self, device: D) -> anyhow::Result<Tally<D>> {
+        let device = fill(self.rt.alloc(), Tally::new(device), self.rows)?;
+        let (mut device, mounting) = self.mount(device)?;
+        for call in CALLS {
+            device = self.repeat(device, call, mounting)?;
+        }
+        Ok(device)
+    }
+
+    // Measures each call in memory.
+    pub(crate) fn run(&self) -> anyhow::Result<()> {
+        let mut words = Words::blank(self.rt.alloc(), BLOCKS, WIDTH)?;
+        let rows = self.rows;
+        println!(self.rt; "{rows} rows:")?;
+        self.run_on(words.open()?)?;
+        Ok(())
+    }
 }

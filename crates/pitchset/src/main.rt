@@ -2,24 +2,30 @@
 // Each call is printed with its answer.
 #![tactic(auto)]
 
-mod pile;
 mod planner;
 mod report;
 
-use pile::Medium;
+use medium::Sides;
+
+const BLOCKS: u32 = 24;
+
+const WIDTH: u32 = 32;
+
+// How many writes the log has room for.
+const RECORDS: u32 = 200;
 
 fn run(rt: &HostRuntime) -> anyhow::Result<()> {
-    let mut medium = Medium::blank(rt.alloc())?;
+    let mut sides = Sides::blank(rt.alloc(), BLOCKS, WIDTH, RECORDS)?;
     println!(rt;
-        "pile: a mirror of (check over memory) and (check over log), 24 blocks of 32 words"
+        "pile: a mirror of (check over memory) and (check over log), {BLOCKS} blocks of {WIDTH} words"
     )?;
-    let pile = medium.open()?;
+    let pile = sides.open(rt.alloc())?;
     planner::before_the_cut(rt, pile)?;
-    medium.lose_power();
+    sides.lose_power();
     println!(rt;
         "The power fails. Of the memory only the persisted words are left, of the log its image."
     )?;
-    let pile = medium.open()?;
+    let pile = sides.open(rt.alloc())?;
     planner::after_the_cut(rt, pile)?;
     Ok(())
 }

@@ -152,10 +152,9 @@ fn ask<D: Device>(rt: &HostRuntime, machine: Machine<D>, ask: Ask) -> (Machine<D
 // Makes the calls one after the other, and prints each with its answer.
 fn make<D: Device + Drop>(
     rt: &HostRuntime,
-    machine: Machine<D>,
+    mut machine: Machine<D>,
     calls: &[Call],
 ) -> anyhow::Result<Machine<D>> {
-    let mut machine = machine;
     for call in calls {
         let (next, answer) = perform(machine, rt.alloc(), *call, &mut []);
         print_answer(rt, *call, answer)?;
@@ -165,8 +164,10 @@ fn make<D: Device + Drop>(
 }
 
 // Puts the type's table into clone 0.
-fn put_type<D: Device + Drop>(rt: &HostRuntime, machine: Machine<D>) -> anyhow::Result<Machine<D>> {
-    let mut machine = machine;
+fn put_type<D: Device + Drop>(
+    rt: &HostRuntime,
+    mut machine: Machine<D>,
+) -> anyhow::Result<Machine<D>> {
     for (speed, angle) in &TYPE_TABLE {
         let put = Ask::Put {
             clone: 0,
@@ -183,8 +184,10 @@ fn put_type<D: Device + Drop>(rt: &HostRuntime, machine: Machine<D>) -> anyhow::
 }
 
 // Creates clones without rows until one is refused, and deletes them.
-fn fill_up<D: Device + Drop>(rt: &HostRuntime, machine: Machine<D>) -> anyhow::Result<Machine<D>> {
-    let mut machine = machine;
+fn fill_up<D: Device + Drop>(
+    rt: &HostRuntime,
+    mut machine: Machine<D>,
+) -> anyhow::Result<Machine<D>> {
     for clone in 4..24 {
         let create = Ask::Create { clone };
         let (next, answer) = ask(rt, machine, create);
@@ -202,8 +205,10 @@ fn fill_up<D: Device + Drop>(rt: &HostRuntime, machine: Machine<D>) -> anyhow::R
 }
 
 // Lists the clones, side by side.
-fn compare<D: Device + Drop>(rt: &HostRuntime, machine: Machine<D>) -> anyhow::Result<Machine<D>> {
-    let mut machine = machine;
+fn compare<D: Device + Drop>(
+    rt: &HostRuntime,
+    mut machine: Machine<D>,
+) -> anyhow::Result<Machine<D>> {
     let mut columns = Vec::new(rt.alloc());
     for clone in CLONES {
         let list = Call::Ask(Ask::List { clone, speed: 0 });

@@ -41,11 +41,11 @@ pub(crate) struct Column {
 }
 
 impl Column {
-    fn angle_at(&self, speed: u32) -> Option<i32> {
-        self.rows
-            .iter()
-            .find(|row| row.speed == speed)
-            .map(|row| row.angle)
+    // The angle of the row with a speed; the rows ascend.
+    fn angle(&self, speed: u32) -> Option<i32> {
+        let place = self.rows.binary_search_by_key(&speed, |row| row.speed);
+        let row = self.rows.get(place.ok()?)?;
+        Some(row.angle)
     }
 }
 
@@ -80,7 +80,7 @@ fn print_line(
     let shown = format!(in heap; "{}", Hundredths::from(speed))?;
     print!(rt; "    {shown:>5}")?;
     for column in columns {
-        match column.angle_at(speed) {
+        match column.angle(speed) {
             None => print!(rt; "          -")?,
             Some(angle) => {
                 let shown = format!(in heap; "{}", Hundredths::from(angle))?;

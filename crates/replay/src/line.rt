@@ -1,5 +1,6 @@
 // The lines of a script. docs/oracle.md lists them.
 ghost use Rattle.std.specs.Prelude.{◌≡◌, ◌==◌, ◌+◌, ◌<◌, ◌^◌, [], take, drop, length, position, IfSome, MatchOption, SomeIff};
+ghost use Rattle.std.specs.Iterator.{at_most};
 ghost use Rattle.std.specs.Str.Parse.{IsNumeral, digits_value, without_leading_plus};
 
 use history::{Ask, Call};
@@ -20,24 +21,8 @@ pub(crate) enum Pile {
     },
 }
 
-impl Pile {
-    pub(crate) fn blocks(self) -> u32 {
-        match self {
-            Pile::Memory { blocks, .. } | Pile::Mirror { blocks, .. } => blocks,
-        }
-    }
-}
-
-// What is printed of a clone's summary.
-#[derive(Clone, Copy)]
-pub(crate) enum Part {
-    Count,
-    Span,
-    Sum,
-}
-
 // What a cut of the power does to the writes that are not flushed.
-#[derive(Clone, Copy)]
+#[derive(Clone, Copy, PartialEq, Eq)]
 pub(crate) enum Cut {
     // None is kept.
     Old,
@@ -59,11 +44,42 @@ pub(crate) enum Line {
     Call(Call),
     // A list of at most so many rows.
     List { clone: u32, speed: u32, room: u32 },
-    Summary { part: Part, clone: u32 },
+    Count { clone: u32 },
+    Span { clone: u32 },
+    Sum { clone: u32 },
     Cut(Cut),
-    // A cut inside finish, after its write, which is kept or lost.
-    CutFinish { kept: bool },
+    // The power fails inside finish, and the slot that it wrote is lost.
+    FinishLost,
+    // It fails there, and the slot is kept.
+    FinishKept,
     Raw(Patch),
+}
+
+// The lines of a text.
+#[derive(Drop)]
+pub(crate) struct Lines<'t> {
+    text: &'t [u8],
+}
+
+impl<'t> Lines<'t> {
+    pub(crate) fn of(text: &'t [u8]) -> Lines<'t> {
+        Lines { text }
+    }
+}
+
+impl<'t> Iterator for Lines<'t> {
+    type Item = &'t [u8];
+
+    ghost remaining = { λ lines. at_most (length lines.text.now) };
+
+    fn next(&mut self) -> Option<&'t [u8]> {
+        if self.text.is_empty() {
+            return None;
+        }
+        let (line, rest) = split_line(self.text);
+        self.text = rest;
+        Some(line)
+    }
 }
 
 // Where the first line ends.
@@ -75,7 +91,7 @@ fn line_end(text: &[u8]) -> Option<usize>
 }
 
 // The first line, and what comes after its line break.
-pub(crate) fn split_line(text: &[u8]) -> (&[u8], &[u8])
+fn split_line(text: &[u8]) -> (&[u8], &[u8])
     ensures { MatchOption (position (λ b. b == 10) text.now)
         ((result.0.now ≡ text.now) × (result.1.now ≡ []))
         (λ k. (result.0.now ≡ take k text.now) × (result.1.now ≡ drop (k + 1) text.now)) }
@@ -169,23 +185,22 @@ fn line_of(tokens: &[&str]) -> Option<Line> {
             speed: number(speed)?,
             room: number(room)?,
         }),
-        ["count", clone] => summary(Part::Count, clone),
-        ["span", clone] => summary(Part::Span, clone),
-        ["sum", clone] => summary(Part::Sum, clone),
+        ["count", clone] => Some(Line::Count {
+            clone: number(clone)?,
+        }),
+        ["span", clone] => Some(Line::Span {
+            clone: number(clone)?,
+        }),
+        ["sum", clone] => Some(Line::Sum {
+            clone: number(clone)?,
+        }),
         ["cut", "old"] => Some(Line::Cut(Cut::Old)),
         ["cut", "new"] => Some(Line::Cut(Cut::New)),
         ["cut", "torn"] => Some(Line::Cut(Cut::Torn)),
-        ["cutfinish", "old"] => Some(Line::CutFinish { kept: false }),
-        ["cutfinish", "new"] => Some(Line::CutFinish { kept: true }),
+        ["cutfinish", "old"] => Some(Line::FinishLost),
+        ["cutfinish", "new"] => Some(Line::FinishKept),
         _ => Some(Line::Call(Call::Ask(ask_of(tokens)?))),
     }
-}
-
-fn summary(part: Part, clone: &str) -> Option<Line> {
-    Some(Line::Summary {
-        part,
-        clone: number(clone)?,
-    })
 }
 
 fn ask_of(tokens: &[&str]) -> Option<Ask> {

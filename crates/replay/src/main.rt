@@ -2,28 +2,34 @@
 #![tactic(auto)]
 
 mod line;
-mod medium;
+mod power;
 mod session;
+mod stop;
 
-use line::{parse_pile, split_line};
-use medium::Medium;
+use line::{Lines, Pile, parse_pile};
+use medium::{Fault, Sides, Words};
+use session::replay;
+use std::alloc::Global;
 use std::io::Read;
+use stop::Stop;
 
-// Runs the lines after the first, from one cut to the next. Each cut takes a line.
-fn replay(rt: &HostRuntime, medium: Medium, text: &[u8]) -> anyhow::Result<()> {
-    let mut medium = medium;
-    let mut text = text;
-    let mut fresh = true;
-    for _ in 0..=text.len() {
-        let mut out = String::new(rt.alloc());
-        let (end, rest) = medium.power_on(&mut out, fresh, text)?;
-        let goes_on = medium.settle(&mut out, end)?;
-        print!(rt; "{out}")?;
-        if !goes_on {
-            break;
-        }
-        text = rest;
-        fresh = false;
+// Runs a script on the devices that its first line names.
+fn play(heap: Global, out: &mut String, text: &[u8]) -> Result<(), Stop> {
+    let mut script = Lines::of(text);
+    let first = script.next().ok_or(Stop::BadLine)?;
+    match parse_pile(heap, first)?.ok_or(Stop::BadLine)? {
+        Pile::Memory { blocks, width } => {
+            let mut words = Words::blank(heap, blocks, width)?;
+            replay(heap, out, words.open()?, script)?;
+        },
+        Pile::Mirror {
+            blocks,
+            width,
+            records,
+        } => {
+            let mut sides = Sides::blank(heap, blocks, width, records)?;
+            replay(heap, out, sides.open(heap)?, script)?;
+        },
     }
     Ok(())
 }
@@ -32,16 +38,17 @@ fn run(rt: &HostRuntime) -> anyhow::Result<()> {
     let mut text = Vec::new(rt.alloc());
     let mut reader = rt.reader();
     reader.read_to_end(&mut text)?;
-    let (first, rest) = split_line(&text);
-    let Some(pile) = parse_pile(rt.alloc(), first)? else {
-        println!(rt; "bad line")?;
-        return Ok(());
-    };
-    let Some(medium) = Medium::blank(rt.alloc(), pile)? else {
-        println!(rt; "refused 2")?;
-        return Ok(());
-    };
-    replay(rt, medium, rest)
+    let mut out = String::new(rt.alloc());
+    let ended = play(rt.alloc(), &mut out, &text);
+    print!(rt; "{out}")?;
+    match ended {
+        Ok(()) => Ok(()),
+        Err(Stop::Unmade(Fault::NoMemory)) => Err(Fault::NoMemory.into()),
+        Err(stop) => {
+            println!(rt; "{stop}")?;
+            Ok(())
+        },
+    }
 }
 
 fn main(rt: HostRuntime) -> anyhow::Result<()> {
