@@ -2,8 +2,9 @@
 #![tactic(auto)]
 
 ghost use Rattle.std.specs.Prelude.{◌≡◌, ◌≤◌, ◌+◌, ◌*◌, length, replicate, IfOk, MatchResult};
-ghost use Rattle.memory.specs.Memory.{memory, Shaped, cleared};
+ghost use Rattle.memory.specs.Memory.{memory, parts, parts_of, Shaped};
 ghost use Rattle.log_device.specs.Log.{Limits, opened_log};
+ghost use Rattle.medium.specs.Held.{held, opened};
 ghost use Rattle.medium.specs.Built.{Buildable, built};
 ghost use Rattle.medium.specs.Logs.{Readable, log_fault};
 ghost use Rattle.medium.specs.declared.Fault.{Fault};
@@ -73,8 +74,7 @@ impl Words {
     // Words of 0 for so many blocks, 1 to 4,096, of so many words each, 1 to 64.
     pub fn blank(heap: Global, blocks: u32, width: u32) -> Result<Words, Fault>
         ensures { MatchResult result
-            (λ words. Limits blocks width × (words.current.items ≡ replicate (blocks * width) 0) × (words.persisted.items ≡ replicate (blocks * width) 0)
-            × (words.marks.items ≡ replicate blocks 0) × (words.width ≡ width))
+            (λ words. Limits blocks width × (held words ≡ parts (replicate (blocks * width) 0) (replicate (blocks * width) 0) (replicate blocks 0) width))
             (λ fault. (fault ≡ Fault.Shape) → Limits blocks width → ⊥) }
     {
         if !(1..=4_096).contains(&blocks) || !(1..=64).contains(&width) {
@@ -93,8 +93,8 @@ impl Words {
     // Opens the memory: what its words show after a cut of the power.
     pub fn open(&mut self) -> Result<Memory<'_>, Fault>
         ensures { MatchResult result
-            (λ s. memory s.slices.current.now s.slices.persisted.now s.slices.marks.now s.width ≡ cleared self.old.persisted.items (length self.old.marks.items) self.old.width)
-            (λ fault. Shaped (length self.old.current.items) (length self.old.persisted.items) (length self.old.marks.items) self.old.width → ⊥) }
+            (λ s. memory (parts_of s.slices s.width) ≡ opened self.old)
+            (λ fault. Shaped (held self.old) → ⊥) }
     {
         let width = self.width;
         Ok(Memory::open(
@@ -119,9 +119,8 @@ impl Sides {
     // many writes, at most 1,000,000.
     pub fn blank(heap: Global, blocks: u32, width: u32, records: u32) -> Result<Sides, Fault>
         ensures { MatchResult result
-            (λ sides. Readable sides.image.items blocks (width + 1) × (length sides.image.items ≡ 1 + records * (width + 2)) × (sides.words.current.items ≡ replicate (blocks * (width + 1)) 0)
-            × (sides.words.persisted.items ≡ replicate (blocks * (width + 1)) 0) × (sides.words.marks.items ≡ replicate blocks 0)
-            × (sides.words.width ≡ width + 1) × (sides.blocks ≡ blocks))
+            (λ sides. Readable sides.image.items blocks (width + 1) × (length sides.image.items ≡ 1 + records * (width + 2))
+            × (held sides.words ≡ parts (replicate (blocks * (width + 1)) 0) (replicate (blocks * (width + 1)) 0) (replicate blocks 0) (width + 1)) × (sides.blocks ≡ blocks))
             (λ fault. (fault ≡ Fault.Shape) → Limits blocks (width + 1) → records ≤ 1000000 → ⊥) }
     {
         if width > 63 || records > 1_000_000 {
@@ -149,10 +148,9 @@ impl Sides {
     // Opens both sides, and builds the layers over them.
     pub fn open(&mut self, heap: Global) -> Result<Mirrored<'_>, Fault>
         ensures { MatchResult result
-            (λ s. ⟦<Mirrored<'static> as Device>⟧.meaning s ≡ built (cleared self.old.words.persisted.items (length self.old.words.marks.items) self.old.words.width) (opened_log self.old.image.items self.old.blocks self.old.words.width))
-            (λ fault. (fault ≡ Fault.Shape) → Readable self.old.image.items self.old.blocks self.old.words.width
-            → Shaped (length self.old.words.current.items) (length self.old.words.persisted.items) (length self.old.words.marks.items) self.old.words.width
-            → Buildable (cleared self.old.words.persisted.items (length self.old.words.marks.items) self.old.words.width) (opened_log self.old.image.items self.old.blocks self.old.words.width) → ⊥) }
+            (λ s. ⟦<Mirrored<'static> as Device>⟧.meaning s ≡ built (opened self.old.words) (opened_log self.old.image.items self.old.blocks self.old.words.width))
+            (λ fault. (fault ≡ Fault.Shape) → Readable self.old.image.items self.old.blocks self.old.words.width → Shaped (held self.old.words)
+            → Buildable (opened self.old.words) (opened_log self.old.image.items self.old.blocks self.old.words.width) → ⊥) }
     {
         let blocks = self.blocks;
         let width = self.words.width;
