@@ -31,6 +31,7 @@ pub record Ready (q : State) (n : Block) (s l : ℕ) (es : List (ℕ × Pay ℕ 
   pub counted : Counted (block_at q.0) q.1 (λ b. occ b (kids l es) + others b)
   pub modest : (b : ℕ) → others b + 32 * l ≤ 2000
 
+-- the page holds entries of some level
 pub record Able (q : State) (n : Block) (s : ℕ) : Type 0 where
   pub l : ℕ
   pub es : List (ℕ × Pay ℕ ℕ l)
