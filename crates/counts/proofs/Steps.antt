@@ -9,7 +9,7 @@ use Rattle.counts.proofs.Parents.{one_same, one_other, live_pos, parents_set, pa
 pub within : (cs : List ℕ) (x : ℕ) → 0 < get_or cs x 0 → x < length cs
 within cs x h = ⊎_elim (λ l. l) (λ past. absurd (omega (arith, get_or_past cs x 0 past))) (cases_lt x (length cs))
 
-at_same : (cs : List ℕ) (x v b : ℕ) → x < length cs → b ≡ x → get_or (set cs x v) b 0 ≡ v
+pub at_same : (cs : List ℕ) (x v b : ℕ) → x < length cs → b ≡ x → get_or (set cs x v) b 0 ≡ v
 at_same cs x v b h e = subst (λ n. get_or (set cs x v) n 0 ≡ v) (sym e) (get_or-set_same cs x v 0 h)
 
 alive_set : (cs : List ℕ) (x v y : ℕ) → 0 < get_or cs x 0 → 0 < get_or (set cs x v) y 0 → 0 < get_or cs y 0

@@ -13,6 +13,7 @@ use Rattle.model.proofs.TreeLaws.{tree_stored, grow_fit, begin_fit}
 use Rattle.edit.specs.Kept.{Free}
 use Rattle.edit.specs.Edited.{Editable, Granted, Edited}
 use Rattle.edit.proofs.Trees.{Spare, Rooted, from_model}
+use Rattle.model.proofs.Grants.{tall}
 
 -- the free blocks are within bounds, of count 0, and ascend
 spare_at : (k b : ℕ) (cs : List ℕ) (i : ℕ) → i < length (spare k b cs) → (b ≤ get_or (spare k b cs) i 0) × (get_or (spare k b cs) i 0 < b + k) × (get_or cs (get_or (spare k b cs) i 0) 0 ≡ 0)
@@ -66,16 +67,12 @@ module _ (n : ℕ) (m : Meaning) (cs gs : List ℕ) (G : Granted n (m, cs) gs) w
 pub all_taken : (k : ℕ) (gs hs : List ℕ) → length gs ≡ suc k → hs ≡ drop k gs → drop 1 hs ≡ []
 all_taken k gs hs n e = ap (drop 1) e ∙ drop-drop 1 k gs ∙ drop_all (k + 1) gs (omega (arith, n))
 
-up : (h : ℕ) → 1 ≤ h → suc (top_level h) ≡ h
-up zero l = absurd (omega arith)
-up (suc h) l = refl
-
 pub rooted : (m : Meaning) (cs gs : List ℕ) (root : Root) (s : ℕ) (E : Editable (m, cs) root) → Granted (2 * root.0 + 1) (m, cs) gs → s < 10000
     → Rooted m cs gs root s (tree_at (current_at m) root) E.others
 unfolding tree_at
 rooted m cs gs root s E G sp =
     let t = tree_at (current_at m) root in
-    let hi : suc t.0 ≡ root.0 = up root.0 E.good.height in
+    let hi : suc t.0 ≡ root.0 = tall root.0 E.good.height in
     let N : 2 * suc t.0 + 1 ≡ 2 * root.0 + 1 = omega (arith, hi) in
     record {
       height = hi;

@@ -1,10 +1,10 @@
 -- A machine, as the model sees it, and what comes of a call.
-use Rattle.std.specs.Prelude.{◌≡◌, ℕ, true, List, Ok, Err, Result}
-use Rattle.device.specs.Meaning.{Meaning, blocks_of}
+use Rattle.std.specs.Prelude.{◌≡◌, ℕ, List, Ok, Err, Result}
+use Rattle.device.specs.Meaning.{Meaning}
 use Rattle.device.specs.Cuts.{Op}
 use Rattle.table.specs.declared.pair.Pair.{Pair}
 use Rattle.model.specs.Plain.{Map, Call, Call.mount, Answer}
-use Rattle.model.specs.World.{Mode, Mode.mounted, Mode.sealed, Mode.down, Step, sizes}
+use Rattle.model.specs.World.{Mode, Mode.mounted, Mode.sealed, Mode.down, Step, Fits}
 use Rattle.model.specs.Onward.{Turn}
 use Rattle.history.specs.declared.call.Answer.{Answer as Given}
 use Rattle.history.specs.declared.call.Denied.{Denied}
@@ -28,4 +28,4 @@ abbrev pub Outcome : {V : Type 0} → (Mode × Meaning → Call → Answer V →
 Outcome R out s c (Ok a) s' = R s c (answer_of out (Ok a)) s'
 Outcome R out s c (Err (Refused r)) s' = R s c (answer_of out (Err r)) s'
 Outcome R out s c (Err OutOfTurn) s' = (Turn s.0 c → ⊥) × (s' ≡ s)
-Outcome R out s c (Err NoMemory) s' = (c ≡ mount) × (s.0 ≡ down) × (sizes (blocks_of s.1) s.1.width ≡ true) × (s' ≡ s)
+Outcome R out s c (Err NoMemory) s' = (c ≡ mount) × (s.0 ≡ down) × Fits s.1 × (s' ≡ s)

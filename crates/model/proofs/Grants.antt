@@ -1,6 +1,5 @@
 -- What an accepted call finds: a sound tree, and free blocks enough.
 use Rattle.std.proofs.Common.{◌≡◌, ℕ, zero, suc, ◌+◌, ◌-◌, ◌*◌, ◌%◌, ◌<◌, ◌≤◌, Bool, true, false, cond, not, ◌&&◌, T, ltb, leb, List, [], ◌∷◌, length, ℤ, is_some, Some, None, Option, sym, refl, ap, ◌∙◌, subst, arith}
-use Rattle.std.specs.Option.{option_or}
 use Rattle.std.proofs.lemmas.Bool.{cond_both, and_parts, and_from, leb-true, le-leb, lt-ltb, ltb-false}
 use Rattle.device.specs.Meaning.{Content, Content.words, Meaning, blocks_of, current_at}
 use Rattle.page.specs.Slot.{Root, Table, slot_words, every, rooted}
@@ -21,17 +20,11 @@ use Rattle.model.specs.World.{Tables, trees, model_of, shape, sizes, slot_in}
 use Rattle.model.proofs.TreeLaws.{Allowed, needed, grow_rows, grow_fit, begin_fit, angle_payload, payload_range}
 use Rattle.model.proofs.Frames.{Goods, good_at, OnPlace, trees_place, tree_at?}
 use Rattle.model.proofs.Places.{form_of?, forms_place}
+use Rattle.model.proofs.Walks.{some_none, either_none}
 
-abbrev pub IsNone : {A : Type 0} → Option A → Type 0
-IsNone None = Unit {0}
-IsNone (Some x) = ⊥
-
-pub some_none : {A : Type 0} (x : A) → Some x ≡ None → ⊥
-some_none x e = subst IsNone (sym e) tt
-
-pub either_none : {A : Type 0} (x y : Option A) → option_or x y ≡ None → (x ≡ None) × (y ≡ None)
-either_none (Some a) y e = absurd (some_none a e)
-either_none None y e = (refl, e)
+pub tall : (h : ℕ) → 1 ≤ h → suc (top_level h) ≡ h
+tall zero h = absurd (omega arith)
+tall (suc l) h = refl
 
 first_none : (p : Bool) (r : Refusal) (ts : List (Bool × Refusal)) → first ((p, r) ∷ ts) ≡ None → (p ≡ false) × (first ts ≡ None)
 first_none true r ts e = absurd (some_none r e)
@@ -134,10 +127,6 @@ module _ (t : Tables) (m : Meaning) (z : sizes (blocks_of m) m.width ≡ true) (
 
   pub enough : (n k : ℕ) → needs S n k ≡ None → k ≤ length (free S)
   enough n k e = ltb-false (length (free S)) k (first_none (ltb (length (free S)) k) Short ((ltb S.left k, Worn (Some n) S.layer) ∷ []) e).0
-
-  tall : (h : ℕ) → 1 ≤ h → suc (top_level h) ≡ h
-  tall zero h = absurd (omega arith)
-  tall (suc l) h = refl
 
   level_at : (r : Root) → Good (blocks_of m) (current_at m) r → suc (tree_at (current_at m) r).0 ≡ r.0
   unfolding tree_at

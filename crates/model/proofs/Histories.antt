@@ -567,4 +567,4 @@ module _ (V : Type 0) (join : ℕ → Map → V) where
         before = refl;
         other_slot = ap (λ c. slot_in (blocks_of m) 0 c) f.3 ∙ slot_law (blocks_of m) m.width 0 (current_at m) blank f.0 refl tt (lit≤ tt);
       } in
-      (record { calm = f.2; kept = kept; len = refl; goods = tt }, refl)
+      (record { calm = λ b _. f.2 b; kept = kept; len = refl; goods = tt }, refl)

@@ -15,9 +15,10 @@ use Rattle.model.specs.Right.{Ends}
 use Rattle.model.specs.Onward.{Turn, GoesOn, formatting, Formats}
 use Rattle.model.proofs.TreeLaws.{elem_left, elem_right, stored_same, reach_form}
 use Rattle.model.proofs.Frames.{Reaches}
-use Rattle.model.proofs.Grants.{Start, put_start, remove_start, enough, create_fit, put_fit, remove_fit, either_none, sizes_parts}
+use Rattle.model.proofs.Grants.{Start, put_start, remove_start, enough, create_fit, put_fit, remove_fit, sizes_parts}
 use Rattle.model.proofs.Histories.{Base, Fine, step_fine, broke_fine, idle_cut, formatted_fine, in_working}
 use Rattle.model.proofs.Progress.{script, met}
+use Rattle.model.proofs.Walks.{either_none}
 
 -- a clone's blocks are used
 spot_reach : (c : ℕ → Content) (t : Table) (n : ℕ) (r : Root) (b : ℕ) → place t n ≡ Some r → T (elem b (reach (tree_at c r))) → T (elem b (Reaches c t))
@@ -134,7 +135,7 @@ formats m z =
     let b₁ : blocks_of m₁ ≡ blocks_of m = blocks_apply (write 0 s₀) m in (
       ap (λ n. sizes n w) (blocks_replay (formatting w) m) ∙ z,
       (λ b. ap (λ c. c.mark) (flush_at m₂ b)),
-      (λ b e. ap (λ c. c.persisted) (flush_at m₂ b) ∙ ap (λ c. c.current) (sym (flush_at m₂ b))),
+      (λ b. ap (λ c. c.persisted) (flush_at m₂ b) ∙ ap (λ c. c.current) (sym (flush_at m₂ b))),
       ap (λ c. c.current) (flush_at m₂ 0) ∙ ap (λ c. c.current) (write_off m₁ 1 0 s₁ (λ e. omega arith)) ∙ ap (λ c. c.current) (write_at m 0 s₀ (omega arith)),
       ap (λ c. c.current) (flush_at m₂ 1) ∙ ap (λ c. c.current) (write_at m₁ 1 s₁ (omega arith)),
     )

@@ -29,6 +29,7 @@ use Rattle.model.proofs.Walks.{Angles, rows_angles}
 use Rattle.model.proofs.TreeLaws.{needed, changed_low}
 use Rattle.model.proofs.Grants.{unused_each, free_each, sizes_parts}
 use Rattle.model.proofs.Histories.{Base, keeps_free}
+use Rattle.tree.proofs.Granted.{in_at, one_place}
 
 abbrev Ot : Type 0
 Ot = Option ℕ
@@ -272,18 +273,6 @@ unused_apart (suc k) b us =
     cond_both (elem b us) _ _ Distinct (λ e. unused_apart k (suc b) us)
     (λ e. ((λ h. let q = (each_at (λ x. (suc b ≤ x) × (x < suc b + k)) (unused k (suc b) us) b (unused_each k (suc b) us) h).0 in omega arith), unused_apart k (suc b) us))
 
-get_or_in : (xs : List ℕ) (i : ℕ) → i < length xs → In (get_or xs i 0) xs
-get_or_in [] i h = absurd (omega arith)
-get_or_in (x ∷ xs) zero h = inl refl
-get_or_in (x ∷ xs) (suc i) h = inr (get_or_in xs i (omega arith))
-
-get_or_apart : (xs : List ℕ) (i j : ℕ) → Distinct xs → i < length xs → j < length xs → get_or xs i 0 ≡ get_or xs j 0 → i ≡ j
-get_or_apart [] i j d h k e = absurd (omega arith)
-get_or_apart (x ∷ xs) zero zero d h k e = refl
-get_or_apart (x ∷ xs) zero (suc j) d h k e = absurd (d.0 (subst (λ z. In z xs) (sym e) (get_or_in xs j (omega arith))))
-get_or_apart (x ∷ xs) (suc i) zero d h k e = absurd (d.0 (subst (λ z. In z xs) e (get_or_in xs i (omega arith))))
-get_or_apart (x ∷ xs) (suc i) (suc j) d h k e = ap suc (get_or_apart xs i j d.1 (omega arith) (omega arith) e)
-
 module _ (f : List ℕ) where
   abbrev pick : ℕ → ℕ
   pick i = get_or f i 0
@@ -296,7 +285,7 @@ module _ (f : List ℕ) where
   map_apart : (ps : List ℕ) → Distinct ps → ((p : ℕ) → In p ps → p < length f) → Distinct f → Distinct (map pick ps)
   map_apart [] d h a = tt
   map_apart (p ∷ ps) d h a =
-      ((λ q. let z = in_map ps (pick p) q in d.0 (subst (λ y. In y ps) (sym (get_or_apart f p z.0 a (h p (inl refl)) (h z.0 (inr z.1)) z.2)) z.1)), map_apart ps d.1 (λ q k. h q (inr k)) a)
+      ((λ q. let z = in_map ps (pick p) q in d.0 (subst (λ y. In y ps) (sym (one_place f p z.0 a (h p (inl refl)) (h z.0 (inr z.1)) z.2)) z.1)), map_apart ps d.1 (λ q k. h q (inr k)) a)
 
 places_low : (l : ℕ) (m : Ot) (es : List (ℕ × Pay Ot ℕ l)) (p : ℕ) → In p (places ℕ (l, (m, es))) → p ≤ 2 * l
 places_low l None es p (inl e) = omega arith
@@ -355,7 +344,7 @@ module _ (t : Tables) (m : Meaning) (B : Base t m) (n : ℕ) (d : Change ℕ) wh
       let low : (p : ℕ) → In p (places ℕ r) → p < length fs = λ p h. (let q = places_low r.0 r.1.0 r.1.1 p h in let k = changed_low ℕ d src in omega arith) in
       let apart : Distinct (firsts_of ys) = subst Distinct (sym firsts_are) (map_apart fs (places ℕ r) (changed_apart d src) low (unused_apart (blocks_of m - 2) 2 (used (shape t m)))) in
       let nice : Each Nice (firsts_of ys)
-      = subst (Each Nice) (sym firsts_are) (each_in Nice (new_blocks d fs src) (λ b h. let z = in_map fs (places ℕ r) b h in subst Nice (sym z.2) (each_at Nice fs (get_or fs z.0 0) free_nice (get_or_in fs z.0 (low z.0 z.1))))) in
+      = subst (Each Nice) (sym firsts_are) (each_in Nice (new_blocks d fs src) (λ b h. let z = in_map fs (places ℕ r) b h in subst Nice (sym z.2) (each_at Nice fs (get_or fs z.0 0) free_nice (in_at fs z.0 (low z.0 z.1))))) in
       let frees : Each (FreeWrite t m) script = each_ops Nice (FreeWrite t m) (λ b ws k. k) m.width ys nice in
       let c : ℕ → Content = current_at (replay script m) in
       let small : Each (λ (y : ℕ × Block). y.0 < blocks_of m) ys = each_in (λ (y : ℕ × Block). y.0 < blocks_of m) ys (λ y h. (each_at (λ (y : ℕ × Block). Nice y.0) ys y (each_firsts Nice ys nice) h).1) in

@@ -9,7 +9,7 @@ use Rattle.tree.specs.Tree as tree
 use Rattle.tree.specs.Tree.{Pay, Rows, rows, Marks, blocks, All, Wf, over, over_root, put_root, rem_root, raise, lower, only}
 use Rattle.tree.specs.Stored.{same, is_new}
 use Rattle.tree.specs.Numbered.{numbered, news, bare, Known}
-use Rattle.tree.proofs.Stores.{all_both, over_tally}
+use Rattle.tree.proofs.Stores.{all_both, over_tally, map_same}
 use Rattle.tree.proofs.Kept.{kept}
 use Rattle.tree.proofs.Over.{natural, over_rows}
 use Rattle.tree.proofs.Laid.{same_rule}
@@ -134,10 +134,6 @@ pub fit_inside : (n : ℕ) (t : Tree) → Fit n t → (b : ℕ) → T (elem b (r
 fit_inside n t f b h = all_elem ℕ (λ x. (2 ≤ x) × (x < n)) (suc t.0) t.1 f.inside b h
 
 -- numbers change no rows and no layout
-map_same : {P : Type 0} (xs : List (ℕ × P)) → map_e same xs ≡ xs
-map_same [] = refl
-map_same {P} (e ∷ r) = ap (λ (z : List (ℕ × P)). e ∷ z) (map_same r)
-
 module _ (P : Type 0) (pick : ℕ → ℕ) (r : tree.Root (Option ℕ) P) where
   number_wf : Wf (Option ℕ) P r.0 r.1 → Wf ℕ P r.0 (numbered P pick r).1
   number_wf w =

@@ -18,7 +18,7 @@ abbrev IsNone : {A : Type 0} → Option A → Type 0
 IsNone None = Unit {0}
 IsNone (Some x) = ⊥
 
-some_none : {A : Type 0} (x : A) → Some x ≡ None → ⊥
+pub some_none : {A : Type 0} (x : A) → Some x ≡ None → ⊥
 some_none x e = subst IsNone (sym e) tt
 
 pub either_none : {A : Type 0} (x y : Option A) → option_or x y ≡ None → (x ≡ None) × (y ≡ None)
@@ -147,7 +147,7 @@ module _ (n : ℕ) (c : ℕ → Content) where
     angles : Every (Angles l) (kids l b)
 
   -- entries and what they stand for
-  payload_pay : (l p : ℕ) → payload l (pay_at c l p) ≡ p
+  pub payload_pay : (l p : ℕ) → payload l (pay_at c l p) ≡ p
   payload_pay zero p = refl
   payload_pay (suc l) p = refl
 

@@ -1,10 +1,10 @@
 -- No history is stuck: each call that is in turn has a step; and a format leads to a formatted device.
-use Rattle.std.specs.Prelude.{◌≡◌, ℕ, true, List, [], ◌∷◌}
-use Rattle.device.specs.Meaning.{Meaning, blocks_of}
+use Rattle.std.specs.Prelude.{ℕ, List, [], ◌∷◌}
+use Rattle.device.specs.Meaning.{Meaning}
 use Rattle.device.specs.Cuts.{Op, Op.write, Op.flush, replay}
 use Rattle.page.specs.Slot.{slot_words}
 use Rattle.model.specs.Plain.{Map, Call, Call.ask, Call.finish, Call.reopen, Call.mount, Answer, blank}
-use Rattle.model.specs.World.{Mode, Mode.mounted, Mode.sealed, Mode.down, Event, Run, Step, Formatted, bare, sizes}
+use Rattle.model.specs.World.{Mode, Mode.mounted, Mode.sealed, Mode.down, Event, Run, Step, Formatted, bare, Fits}
 use Rattle.model.specs.Right.{Ends}
 
 -- the calls that may come next
@@ -33,4 +33,4 @@ abbrev pub formatting : ℕ → List Op
 formatting w = write 0 (slot_words w 0 blank) ∷ write 1 (slot_words w 1 blank) ∷ flush ∷ []
 
 abbrev pub Formats : Type 0
-Formats = (m : Meaning) → sizes (blocks_of m) m.width ≡ true → Formatted (replay (formatting m.width) m)
+Formats = (m : Meaning) → Fits m → Formatted (replay (formatting m.width) m)

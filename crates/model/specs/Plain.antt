@@ -1,5 +1,5 @@
 -- The plain tables: what a history of calls means, without blocks.
-use Rattle.std.specs.Prelude.{ℕ, suc, Bool, cond, not, List, [], ◌∷◌, take, ℤ, is_some, Some, None, Option, nat_le, nat_lt, slice_index_or, slice_set}
+use Rattle.std.specs.Prelude.{ℕ, suc, Bool, cond, not, List, [], ◌∷◌, take, replicate, ℤ, is_some, Some, None, Option, nat_le, nat_lt, slice_index_or, slice_set}
 use Rattle.std.specs.Option.{option_or}
 use Rattle.tree.specs.Node.{ins, del}
 use Rattle.tree.specs.Reads.{look}
@@ -83,7 +83,7 @@ pub record Plain : Type 0 where
   pub generation : ℕ
 
 abbrev pub blank : {A : Type 0} → List (Option A)
-blank = lib.ListN.replicate 24 None
+blank = replicate 24 None
 
 abbrev pub start : Plain
 start = record { working = blank; committed = blank; generation = 1 }

@@ -1,6 +1,6 @@
 -- Trees on the blocks of a device; what a call makes of one; what a sound tree keeps.
 use Rattle.std.specs.Prelude.{◌≡◌, ℕ, zero, suc, ◌<◌, ◌≤◌, Bool, false, ◌||◌, List, [], ◌∷◌, map, ℤ, Some, None, Option, ◌==◌, slice_index}
-use Rattle.device.specs.Meaning.{Content}
+use Rattle.device.specs.Meaning.{Content, Meaning, blocks_of, current_at}
 use Rattle.table.specs.Rows.{angle_of}
 use Rattle.page.specs.Block.{Block, block_in}
 use Rattle.page.specs.Slot.{Root}
@@ -126,6 +126,13 @@ pub record Good (n : ℕ) (c : ℕ → Content) (r : Root) : Type 0 where
   pub height : 1 ≤ r.0
   pub stored : Stored c (tree_at c r)
   pub fit : Fit n (tree_at c r)
+
+-- the tree that a root has on a device, and whether it stands there and is sound
+abbrev pub tree_on : Meaning → Root → Tree
+tree_on m r = tree_at (current_at m) r
+
+abbrev pub GoodOn : Meaning → Root → Type 0
+GoodOn m r = Good (blocks_of m) (current_at m) r
 
 abbrev pub AllGood : {A : Type 0} → (A → Type 0) → List (Option A) → Type 0
 AllGood P [] = Unit

@@ -129,19 +129,23 @@ slot_in n b (damaged k) = None
 abbrev pub sizes : ℕ → ℕ → Bool
 sizes n w = (nat_le 16 n && nat_le n 4096) && (nat_le 32 w && nat_le w 40)
 
+abbrev pub Fits : Meaning → Type 0
+Fits m = sizes (blocks_of m) m.width ≡ true
+
+-- the slot that a device is used by, if its two slots make one
+abbrev pub current_slot : Meaning → Option (ℕ × Table)
+current_slot m = latest (slot_in (blocks_of m) 0 (current_at m 0)) (slot_in (blocks_of m) 1 (current_at m 1))
+
 -- what mount finds on a device
 abbrev pub found : Meaning → Result (ℕ × Table) Refusal
-found m =
-    cond (sizes (blocks_of m) m.width)
-    (walked (walk (blocks_of m) (current_at m) 0) (latest (slot_in (blocks_of m) 0 (current_at m 0)) (slot_in (blocks_of m) 1 (current_at m 1))))
-    (Err Shape)
+found m = cond (sizes (blocks_of m) m.width) (walked (walk (blocks_of m) (current_at m) 0) (current_slot m)) (Err Shape)
 
 -- a device as a finished format leaves it
 abbrev pub Formatted : Meaning → Type 0
 Formatted m =
-    (sizes (blocks_of m) m.width ≡ true)
+    Fits m
     × ((b : ℕ) → (cell_at m b).mark ≡ 0)
-    × ((b : ℕ) → (cell_at m b).mark ≡ 0 → (cell_at m b).persisted ≡ (cell_at m b).current)
+    × ((b : ℕ) → (cell_at m b).persisted ≡ (cell_at m b).current)
     × (current_at m 0 ≡ words (slot_words m.width 0 blank))
     × (current_at m 1 ≡ words (slot_words m.width 1 blank))
 

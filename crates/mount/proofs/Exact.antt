@@ -7,10 +7,10 @@ use Rattle.model.specs.declared.refusal.Refusal.TheVariants.{Shape}
 use Rattle.model.specs.TreeBlocks.{Good, AllGood}
 use Rattle.model.specs.Walk.{Fault, walk}
 use Rattle.model.specs.Reach.{roots_of}
-use Rattle.model.specs.World.{sizes, found, faulty, walked}
+use Rattle.model.specs.World.{sizes, found, faulty, walked, current_slot}
 use Rattle.model.proofs.Walks.{walk_exact}
 use Rattle.mount.specs.Counting.{Counting}
-use Rattle.mount.specs.Mounts.{current_slot, Kept, MountExact, Accepted, Off}
+use Rattle.mount.specs.Mounts.{Kept, MountExact, Accepted, Off}
 use Rattle.mount.proofs.Counting.{counted}
 use Rattle.mount.proofs.Slots.{usable_of, usable_to, pair_of, pair_used, used_rooted}
 

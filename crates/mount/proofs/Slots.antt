@@ -16,9 +16,9 @@ use Rattle.page.specs.View.{slot_of}
 use Rattle.page.specs.declared.roots.Slot.{Slot}
 use Rattle.page.proofs.Slots.{slots_exact, slot_back}
 use Rattle.model.specs.declared.refusal.Refusal.{Refusal}
-use Rattle.model.specs.World.{sizes, slot_in, latest}
+use Rattle.model.specs.World.{sizes, slot_in, latest, current_slot}
 use Rattle.mount.specs.Due.{Usable}
-use Rattle.mount.specs.Mounts.{current_slot, Holds}
+use Rattle.mount.specs.Mounts.{Holds}
 use Rattle.mount.proofs.Blocks.{read_words}
 
 pub usable_of : (m : Meaning) → sizes (blocks_of m) m.width ≡ true → Usable m

@@ -14,11 +14,9 @@ use Rattle.model.specs.Walk.{payable, fault_below, fault_at}
 use Rattle.model.proofs.Walks.{either_none}
 use Rattle.mount.specs.Tally.{Owing, along, tallied, kids, Fine}
 use Rattle.mount.proofs.Blocks.{sound_block}
+use Rattle.counts.proofs.Steps.{at_same}
 
 -- a reference that was owed is counted
-at_same : (cs : List ℕ) (x v b : ℕ) → x < length cs → b ≡ x → get_or (set cs x v) b 0 ≡ v
-at_same cs x v b h e = subst (λ n. get_or (set cs x v) n 0 ≡ v) (sym e) (get_or-set_same cs x v 0 h)
-
 module _ (g : ℕ → Option Block) (cs : List ℕ) (h owed : ℕ → ℕ) (x : ℕ) (lt : x < length cs) (c : Owing g cs h (λ b. one x b + owed b)) where
   -- it is not the first
   pub count_more : 0 < get_or cs x 0 → Owing g (retained x cs) h owed

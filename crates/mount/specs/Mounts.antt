@@ -12,10 +12,6 @@ use Rattle.model.specs.World.{sizes, found, slot_in, latest, fresh}
 use Rattle.model.specs.Reach.{rootings, Standing}
 use Rattle.mount.specs.Due.{Usable}
 
--- the slot that a device is used by, if its two slots make one
-abbrev pub current_slot : Meaning → Option (ℕ × Table)
-current_slot m = latest (slot_in (blocks_of m) 0 (current_at m 0)) (slot_in (blocks_of m) 1 (current_at m 1))
-
 -- slot x written to the block of its parity
 abbrev pub with_slot : Meaning → ℕ × Table → Meaning
 with_slot m x = written m (x.0 % 2) (slot_words m.width x.0 x.1)

@@ -3,9 +3,9 @@ ghost use Rattle.std.specs.Prelude.{◌≡◌, ℕ, ◌<◌, ◌≤◌};
 ghost use Rattle.std.specs.Option.{option_map};
 ghost use Rattle.device.specs.Meaning.{Meaning, blocks_of, current_at};
 ghost use Rattle.page.specs.View.{slot_of};
-ghost use Rattle.model.specs.World.{slot_in, latest};
+ghost use Rattle.model.specs.World.{slot_in, latest, current_slot};
 ghost use Rattle.mount.specs.Due.{Usable};
-ghost use Rattle.mount.specs.Mounts.{current_slot, with_slot};
+ghost use Rattle.mount.specs.Mounts.{with_slot};
 
 use counts::Store;
 use device::Device;

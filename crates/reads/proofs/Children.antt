@@ -12,15 +12,12 @@ use Rattle.model.specs.TreeBlocks.{entries_in, pay_at, payload, block_of, Each}
 use Rattle.model.proofs.Frames.{each_map}
 use Rattle.reads.specs.Sound.{Valid, held, rows_in, rows_at, Sound, FullAt}
 use Rattle.reads.proofs.Lists.{each_left, each_right, each_append, asc_below, asc_above}
+use Rattle.model.proofs.Walks.{payload_pay}
 
 module _ (c : ℕ → Content) where
-  payload_pay : (l p : ℕ) → payload l (pay_at c l p) ≡ p
-  payload_pay zero p = refl
-  payload_pay (suc l) p = refl
-
   payloads : (l : ℕ) (es : List (ℕ × ℕ)) → map_e (payload l) (held c l es) ≡ es
   payloads l [] = refl
-  payloads l (e ∷ r) = ap₂ (λ (x : ℕ) (y : List (ℕ × ℕ)). (e.0, x) ∷ y) (payload_pay l e.1) (payloads l r)
+  payloads l (e ∷ r) = ap₂ (λ (x : ℕ) (y : List (ℕ × ℕ)). (e.0, x) ∷ y) (payload_pay 0 c l e.1) (payloads l r)
 
   -- the entries of block x
   abbrev pub inside : ℕ → List (ℕ × ℕ)

@@ -6,8 +6,8 @@ use Rattle.tree.specs.Tree.{Enough}
 use Rattle.tree.proofs.Laid.{same_rule}
 use Rattle.tree.proofs.Puts.{span_asc}
 use Rattle.table.specs.Rows.{angle_of}
-use Rattle.model.specs.TreeBlocks.{tree_at, top_level, pay_at}
-use Rattle.reads.specs.Rows.{rows_on, GoodOn}
+use Rattle.model.specs.TreeBlocks.{tree_at, top_level, pay_at, GoodOn}
+use Rattle.reads.specs.Rows.{rows_on}
 use Rattle.reads.specs.Sound.{held, rows_in, rows_at, Sound, SoundAt}
 use Rattle.reads.proofs.Lists.{asc_below, each_both}
 use Rattle.reads.proofs.Children.{inside, stands_block, block, length_held}

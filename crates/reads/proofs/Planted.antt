@@ -7,8 +7,7 @@ use Rattle.page.specs.View.{view, entries}
 use Rattle.page.specs.declared.page.Page.{Page}
 use Rattle.page.proofs.Exact.{back}
 use Rattle.page.proofs.Pages.{laid_out}
-use Rattle.model.specs.TreeBlocks.{tree_at}
-use Rattle.reads.specs.Rows.{GoodOn}
+use Rattle.model.specs.TreeBlocks.{tree_at, GoodOn}
 
 -- what the device is for the blocks that are written next
 pub record Blank (m : Meaning) : Type 0 where

@@ -4,7 +4,8 @@ ghost use Rattle.device.specs.Meaning.{current_at};
 ghost use Rattle.tree.specs.Node.{map_e};
 ghost use Rattle.model.specs.Plain.{from};
 ghost use Rattle.table.specs.Rows.{pair_of, angle_of};
-ghost use Rattle.reads.specs.Rows.{rows_on, GoodOn};
+ghost use Rattle.model.specs.TreeBlocks.{GoodOn};
+ghost use Rattle.reads.specs.Rows.{rows_on};
 ghost use Rattle.reads.specs.Sound.{SoundAt, rows_at};
 ghost use Rattle.reads.specs.Lists.{row_in, due, written};
 

@@ -6,7 +6,8 @@ ghost use Rattle.table.specs.Angles.{angle_at};
 ghost use Rattle.table.specs.Around.{StandsAround};
 ghost use Rattle.tree.specs.Node.{map_e};
 ghost use Rattle.tree.specs.Reads.{look};
-ghost use Rattle.reads.specs.Rows.{rows_on, GoodOn};
+ghost use Rattle.model.specs.TreeBlocks.{GoodOn};
+ghost use Rattle.reads.specs.Rows.{rows_on};
 ghost use Rattle.reads.specs.Descent.{Beside, rows_beside};
 
 use super::descent::descend;

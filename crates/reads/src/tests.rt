@@ -3,7 +3,7 @@ ghost use Rattle.std.specs.Prelude.{◌≡◌, ℕ, ◌+◌, ◌<◌, ◌≤◌,
 ghost use Rattle.device.specs.Meaning.{blocks_of};
 ghost use Rattle.page.specs.Io.{Wide};
 ghost use Rattle.page.specs.View.{pair, entries};
-ghost use Rattle.reads.specs.Rows.{GoodOn};
+ghost use Rattle.model.specs.TreeBlocks.{GoodOn};
 
 use super::{at, get, list, summary};
 use counts::{Counts, Store};

@@ -9,7 +9,7 @@ use Rattle.tree.specs.Numbered.{number_or, onward, beside, numbers, numbered, Kn
 use Rattle.tree.specs.Apart.{taking, along, collect, its_place, places, In, Distinct}
 use Rattle.tree.specs.Granted.{inside, sift, taken, FromGrant}
 use Rattle.tree.proofs.Kept.{kept, rem_kept}
-use Rattle.tree.proofs.Numbering.{erased}
+use Rattle.tree.proofs.Numbering.{erased, onward_le}
 use Rattle.tree.proofs.Apart.{below, places_apart}
 
 -- Lists of distinct numbers.
@@ -26,12 +26,12 @@ inside_at [] i h = absurd (omega arith)
 inside_at (x ∷ xs) zero h = or_left (eqb x x) (inside xs x) (eq-eqb x x refl)
 inside_at (x ∷ xs) (suc i) h = or_right (eqb x (get_or xs i 0)) (inside xs (get_or xs i 0)) (inside_at xs i (omega arith))
 
-in_at : (xs : List ℕ) (i : ℕ) → i < length xs → In (get_or xs i 0) xs
+pub in_at : (xs : List ℕ) (i : ℕ) → i < length xs → In (get_or xs i 0) xs
 in_at [] i h = absurd (omega arith)
 in_at (x ∷ xs) zero h = inl refl
 in_at (x ∷ xs) (suc i) h = inr (in_at xs i (omega arith))
 
-one_place : (xs : List ℕ) (i j : ℕ) → Distinct xs → i < length xs → j < length xs → get_or xs i 0 ≡ get_or xs j 0 → i ≡ j
+pub one_place : (xs : List ℕ) (i j : ℕ) → Distinct xs → i < length xs → j < length xs → get_or xs i 0 ≡ get_or xs j 0 → i ≡ j
 one_place [] i j d h k e = absurd (omega arith)
 one_place (x ∷ xs) zero zero d h k e = refl
 one_place (x ∷ xs) zero (suc j) d h k e = absurd (d.0 (subst (λ (y : ℕ). In y xs) (sym e) (in_at xs j (omega arith))))
@@ -65,10 +65,6 @@ module _ (P : Type 0) (pick : ℕ → ℕ) (fresh : ℕ → Bool) where
   one : (i : ℕ) (m : Option ℕ) (xs us : List ℕ) → fresh (pick i) ≡ true → Known (λ b. fresh b ≡ false) m → sift fresh xs ≡ map pick us → sift fresh (number_or (pick i) m ∷ xs) ≡ map pick (taking m i us)
   one i None xs us f k e = ap (λ b. cond b (pick i ∷ sift fresh xs) (sift fresh xs)) f ∙ ap (λ (z : List ℕ). pick i ∷ z) e
   one i (Some b) xs us f k e = ap (λ c. cond c (b ∷ sift fresh xs) (sift fresh xs)) k ∙ e
-
-  onward_le : (m : Option ℕ) (i j k : ℕ) → i ≤ k → j ≤ k → onward m i j ≤ k
-  onward_le None i j k a b = b
-  onward_le (Some x) i j k a b = a
 
   fresh_marks : (l : ℕ) (es : List (ℕ × Pay (Option ℕ) P l)) → ((i : ℕ) → i ≤ 2 * l → fresh (pick i) ≡ true) → Every (All (Option ℕ) P Old l) es → sift fresh (marks l (numbers P pick l es)) ≡ map pick (ps l es)
   fresh_marks zero es h a = leaf es

@@ -38,7 +38,7 @@ known_or : (N : ℕ → Type 0) (x : ℕ) (m : Option ℕ) → N x → Known N m
 known_or N x None a b = a
 known_or N x (Some y) a b = b
 
-onward_le : (m : Option ℕ) (i j k : ℕ) → i ≤ k → j ≤ k → onward m i j ≤ k
+pub onward_le : (m : Option ℕ) (i j k : ℕ) → i ≤ k → j ≤ k → onward m i j ≤ k
 onward_le None i j k a b = b
 onward_le (Some x) i j k a b = a
 

@@ -40,7 +40,7 @@ is_new_lem fresh b = go (fresh b)
     go true = refl
     go false = refl
 
-map_same : {P : Type 0} (xs : List (ℕ × P)) → map_e same xs ≡ xs
+pub map_same : {P : Type 0} (xs : List (ℕ × P)) → map_e same xs ≡ xs
 map_same [] = refl
 map_same {P} (e ∷ r) = ap (λ (z : List (ℕ × P)). e ∷ z) (map_same r)
 

@@ -159,16 +159,6 @@ module _ (t : Tables) (m : Meaning) (cs : List ℕ) (S : Kept t (m, cs)) (n : �
         effect = changed_there t m cs S n h (puts s a) old m' cs' r' E' e' G;
       }
 
-  -- a new tree with no row
-  pub create_there : place t.working n ≡ None → (m' : Meaning) (cs' : List ℕ) (r' : Root)
-      → Edited begin bare_tree (m, cs) (m', cs') → r' ≡ root_of (changed_on ℕ begin (free_blocks cs) bare_tree) → Good (blocks_of m') (current_at m') r' → There t m n begin r' m' cs'
-  create_there none m' cs' r' E e G = record {
-    kept = sound_there t m cs S n h begin (vacant t m cs S n h none) m' cs' r' E e G;
-    os = E.os;
-    trace = E.trace;
-    effect = changed_there t m cs S n h begin (vacant t m cs S n h none) m' cs' r' E e G;
-  }
-
   -- a row is taken out of a clone's tree
   pub take_there : (r : Root) → place t.working n ≡ Some r → (s : ℕ) (m' : Meaning) (cs' : List ℕ) (r' : Root)
       → Edited (takes s) (tree_at (current_at m) r) (m, cs) (m', cs') → r' ≡ root_of (changed_on ℕ (takes s) (free_blocks cs) (tree_at (current_at m) r)) → Good (blocks_of m') (current_at m') r'

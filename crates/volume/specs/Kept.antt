@@ -10,7 +10,7 @@ use Rattle.counts.specs.Moves.{State}
 use Rattle.model.specs.declared.refusal.Refusal.{Refusal}
 use Rattle.model.specs.Plain.{Ask, Map, map_at, place}
 use Rattle.model.specs.Model.{maps_of, lacking}
-use Rattle.model.specs.World.{Tables, Mode.mounted, Asked, sizes, trees}
+use Rattle.model.specs.World.{Tables, Mode.mounted, Asked, Fits, trees}
 use Rattle.model.specs.Reach.{rootings, Standing}
 
 -- the tables of roots in memory
@@ -20,7 +20,7 @@ tables working committed generation = record { working = map root_of working; co
 -- The volume fits the device, has 24 places in each table and a generation of 28 bits; every tree of a place keeps the layout and stands
 -- on the device; and each block has a count, which is the number of its parents, the places among them.
 pub record Kept (t : Tables) (q : State) : Type 0 where
-  pub sized : sizes (blocks_of q.0) q.0.width ≡ true
+  pub sized : Fits q.0
   pub working : length t.working ≡ 24
   pub committed : length t.committed ≡ 24
   pub generation : t.generation ≤ 268435455

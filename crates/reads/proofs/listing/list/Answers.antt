@@ -3,7 +3,8 @@ use Rattle.device.specs.Meaning.{current_at}
 use Rattle.model.specs.Plain.{from}
 use Rattle.table.specs.Rows.{angle_of}
 use Rattle.tree.specs.Node.{map_e}
-use Rattle.reads.specs.Rows.{rows_on, GoodOn}
+use Rattle.model.specs.TreeBlocks.{GoodOn}
+use Rattle.reads.specs.Rows.{rows_on}
 use Rattle.reads.specs.Lists.{row_in, due}
 use Rattle.reads.specs.Sound.{rows_at}
 use Rattle.reads.proofs.Good.{start}

@@ -1,7 +1,7 @@
 use Rattle.std.proofs.Common.{ℕ, List, sym, ap, ◌∙◌, subst}
 use Rattle.device.specs.Meaning.{Meaning}
 use Rattle.page.specs.View.{view}
-use Rattle.reads.specs.Rows.{GoodOn}
+use Rattle.model.specs.TreeBlocks.{GoodOn}
 use Rattle.reads.proofs.Planted.{after, planted}
 use Rattle.reads.proofs.tests.plant.Goals as goal
 

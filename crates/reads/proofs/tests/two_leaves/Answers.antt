@@ -1,7 +1,7 @@
 -- Each call leaves the store as it was, so the tree stays good.
 use Rattle.std.proofs.Common.{◌≡◌, ℕ, List, sym, ◌∙◌, subst}
 use Rattle.device.specs.Meaning.{Meaning}
-use Rattle.reads.specs.Rows.{GoodOn}
+use Rattle.model.specs.TreeBlocks.{GoodOn}
 use Rattle.reads.proofs.tests.two_leaves.Goals as goal
 
 stays : (q r : Meaning × List ℕ) → r ≡ q → GoodOn q.0 (2, 4) → GoodOn r.0 (2, 4)
