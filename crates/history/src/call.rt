@@ -17,6 +17,7 @@ pub enum Ask {
     Summary { clone: u32 },
 }
 
+// The calls of a machine.
 #[derive(Clone, Copy, PartialEq, Eq, Debug)]
 pub enum Call {
     Ask(Ask),

@@ -68,7 +68,7 @@ fn ask<D: Device, S: Summary>(
 
 // A call of a mounted volume.
 fn while_mounted<D: Device, S: Summary>(
-    volume: Volume<D>,
+    mut volume: Volume<D>,
     call: Call,
     out: &mut [Pair],
 ) -> (Machine<D>, Result<Answer<S>, Denied>)
@@ -76,7 +76,6 @@ fn while_mounted<D: Device, S: Summary>(
     ensures rest { drop (shown result.1) out.new ≡ drop (shown result.1) out.old }
     ensures fits { shown result.1 ≤ length out.new }
 {
-    let mut volume = volume;
     match call {
         Call::Ask(question) => {
             let answer = ask(&mut volume, question, out);
