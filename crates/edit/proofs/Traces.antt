@@ -1,5 +1,6 @@
 -- The writes of moves: they go to places of the grant.
 use Rattle.std.proofs.Common.{◌≡◌, ℕ, zero, suc, ◌+◌, ◌*◌, ◌<◌, ◌≤◌, Bool, true, false, cond, eqb, ltb, List, [], ◌∷◌, ◌++◌, length, get_or, take, drop, sym, refl, ap, subst, arith}
+use Rattle.std.proofs.ByRecursion.{All-append}
 use Rattle.device.specs.Meaning.{Meaning, blocks_of}
 use Rattle.device.specs.Cuts.{Op, Op.write, replay}
 use Rattle.tree.specs.Node.{first, ahead, map_e}
@@ -43,15 +44,10 @@ ops_free m cs w [] p = tt
 ops_free m cs w (opening x ∷ vs) p = ops_free m cs w vs p
 ops_free m cs w (linking x n ∷ vs) p = (p.0, ops_free m cs w vs p.1)
 
-module _ {Y : Type 0} (N : Y → Type 0) where
-  pub each_append : (xs ys : List Y) → Each N xs → Each N ys → Each N (xs ++ ys)
-  each_append [] ys a b = b
-  each_append (x ∷ xs) ys a b = (a.0, each_append xs ys a.1 b)
-
 -- what holds of the first 2l places of the grant holds of each block that put's moves below level l write
 module _ (gs : List ℕ) (N : ℕ → Type 0) where
   pub each_linked : (us vs : List Move) → Each N (linked us) → Each N (linked vs) → Each N (linked (us ++ vs))
-  each_linked us vs p q = subst (Each N) (sym (linked_append us vs)) (each_append N (linked us) (linked vs) p q)
+  each_linked us vs p q = subst (Each N) (sym (linked_append us vs)) (All-append N (linked us) (linked vs) p q)
 
   down_each : {X : Type 0} (s : ℕ) (f : ℕ → X → List Move) → ((k : ℕ) (x : X) → Each N (linked (f k x))) → (es : List (ℕ × X)) → Each N (linked (down s f es))
   down_each s f h [] = tt

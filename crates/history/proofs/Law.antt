@@ -1,10 +1,10 @@
 -- A step after a history is lawful.
 use Rattle.std.proofs.Common.{Ok, Err, Result, ℕ, List, [], ◌∷◌, ◌++◌, map, take, sym, subst, subst₂}
+use Rattle.std.proofs.ByRecursion.{All-append}
 use Rattle.std.proofs.lemmas.List.{map-append}
 use Rattle.device.specs.Meaning.{Meaning}
 use Rattle.device.specs.Cuts.{cut, replay}
 use Rattle.model.specs.Plain.{Map, Call, Answer}
-use Rattle.model.specs.TreeBlocks.{Each}
 use Rattle.model.specs.World.{Mode, Mode.mounted, Mode.down, Event, Event.did, Event.broke, Event.lost, Run, bare}
 use Rattle.model.specs.Right.{Ends}
 use Rattle.model.specs.TwoRuns.{first, second, legal}
@@ -16,10 +16,6 @@ use Rattle.history.specs.declared.call.Denied.TheVariants.{OutOfTurn, NoMemory, 
 use Rattle.history.specs.Calls.{answer_of}
 use Rattle.history.specs.Machine.{Stepped, Outcome}
 use Rattle.history.specs.Law.{Law, Lawful}
-
-each_snoc : {A : Type 0} (P : A → Type 0) (xs : List A) (y : A) → Each P xs → P y → Each P (xs ++ y ∷ [])
-each_snoc P [] y h k = (k, tt)
-each_snoc P (x ∷ xs) y h k = (h.0, each_snoc P xs y h.1 k)
 
 module _ (V : Type 0) (join : ℕ → Map → V) where
   -- what comes after a history makes a longer one
@@ -34,7 +30,7 @@ module _ (V : Type 0) (join : ℕ → Map → V) where
   law w m e S = (
     λ d es f R z. (histories V).0 join d (es ++ e ∷ []) f (longer e es (mounted bare) d w m R z S),
     λ d ts t w₂ m₂ f l k q R z R₂ z₂ S₂.
-        (histories V).1 join d (ts ++ t ∷ []) f (each_snoc legal ts t l k)
+        (histories V).1 join d (ts ++ t ∷ []) f (All-append legal ts (t ∷ []) l (k, tt))
         (subst (Run V join (mounted bare) d) (sym (map-append first ts (t ∷ [])))
         (longer (first t) (map first ts) (mounted bare) d w m R z (subst (λ x. Run V join w m (x ∷ [])) (sym q) S)))
         (subst (Run V join (mounted bare) d) (sym (map-append second ts (t ∷ []))) (longer (second t) (map second ts) (mounted bare) d w₂ m₂ R₂ z₂ S₂)),

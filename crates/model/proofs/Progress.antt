@@ -1,5 +1,6 @@
 -- What a call's step asks can be met: the new blocks, written in any order, make the new tree stand.
 use Rattle.std.proofs.Common.{◌≡◌, ℕ, zero, suc, ◌+◌, ◌-◌, ◌*◌, ◌<◌, ◌≤◌, T, List, [], ◌∷◌, ◌++◌, map, length, get_or, set, Some, None, Option, sym, refl, ap, ◌∙◌, subst, ap₂, inl, inr, arith}
+use Rattle.std.proofs.ByRecursion.{All-append}
 use Rattle.std.proofs.lemmas.Bool.{cond_both}
 use Rattle.std.proofs.lemmas.List.{map-append}
 use Rattle.device.specs.Meaning.{Content, Content.words, Meaning, blocks_of, current_at, written}
@@ -35,10 +36,6 @@ abbrev Ot : Type 0
 Ot = Option ℕ
 
 module _ {Y : Type 0} (N : Y → Type 0) where
-  each_join : (xs ys : List Y) → Each N xs → Each N ys → Each N (xs ++ ys)
-  each_join [] ys a b = b
-  each_join (x ∷ xs) ys a b = (a.0, each_join xs ys a.1 b)
-
   each_split : (xs ys : List Y) → Each N (xs ++ ys) → Each N xs × Each N ys
   each_split [] ys a = (tt, a)
   each_split (x ∷ xs) ys a = let p = each_split xs ys a.1 in ((a.0, p.0), p.1)
@@ -165,8 +162,8 @@ module _ (pick : ℕ → ℕ) where
       where
         go : ((es : List (ℕ × Pay Ot ℕ l)) → Every (All ℕ ℕ L l) (numbers ℕ pick l es) → Each G (items l es)) → (i : ℕ) (es : List (ℕ × tree.Tree Ot ℕ l)) → Every (All ℕ ℕ L (suc l)) (beside pick (numbers ℕ pick l) i (2 * l + 1) es) → Each G (along (item l) (items l) i (2 * l + 1) es)
         go ih i [] a = tt
-        go ih i ((k, (None, xs)) ∷ r) a = (h l (pick i, numbers ℕ pick l xs) a.0.0, each_join G (items l xs) (along (item l) (items l) (2 * l + 1) (2 * l + 1) r) (ih xs a.0.1) (go ih (2 * l + 1) r a.1))
-        go ih i ((k, (Some x, xs)) ∷ r) a = each_join G (items l xs) (along (item l) (items l) i (2 * l + 1) r) (ih xs a.0.1) (go ih i r a.1)
+        go ih i ((k, (None, xs)) ∷ r) a = (h l (pick i, numbers ℕ pick l xs) a.0.0, All-append G (items l xs) (along (item l) (items l) (2 * l + 1) (2 * l + 1) r) (ih xs a.0.1) (go ih (2 * l + 1) r a.1))
+        go ih i ((k, (Some x, xs)) ∷ r) a = All-append G (items l xs) (along (item l) (items l) i (2 * l + 1) r) (ih xs a.0.1) (go ih i r a.1)
 
     pub fresh_keep : (l : ℕ) (m : Ot) (es : List (ℕ × Pay Ot ℕ l)) → All ℕ ℕ L (suc l) (numbered ℕ pick (l, (m, es))).1 → Each G (fresh (l, (m, es)))
     fresh_keep l None es a = (h l (pick (2 * l), numbers ℕ pick l es) a.0, news_keep l es a.1)

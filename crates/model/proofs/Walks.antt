@@ -1,5 +1,6 @@
 -- The walk is exact.
 use Rattle.std.proofs.Common.{◌≡◌, ℕ, zero, suc, ◌<◌, ◌≤◌, Bool, true, false, ◌&&◌, eqb, ltb, leb, List, [], ◌∷◌, ◌++◌, length, Some, None, Option, sym, refl, ap, ◌∙◌, subst, ap₂, arith}
+use Rattle.std.proofs.ByRecursion.{All-append}
 use Rattle.std.specs.Option.{option_or}
 use Rattle.std.proofs.lemmas.Bool.{eq-eqb, eqb-true, and_parts, and_from, leb-true, ltb-true, le-leb, lt-ltb, false≢true}
 use Rattle.device.specs.Meaning.{Content, Content.words, Content.damaged}
@@ -102,10 +103,6 @@ abbrev pub Angles : (l : ℕ) → Pay ℕ ℕ l → Type 0
 Angles zero p = p ≤ 18000
 Angles (suc l) t = Every (Angles l) t.1
 
-each_append : (xs ys : List (ℕ × ℕ)) → Each (λ (r : ℕ × ℕ). r.1 ≤ 18000) xs → Each (λ (r : ℕ × ℕ). r.1 ≤ 18000) ys → Each (λ (r : ℕ × ℕ). r.1 ≤ 18000) (xs ++ ys)
-each_append [] ys a b = b
-each_append (x ∷ xs) ys a b = (a.0, each_append xs ys a.1 b)
-
 each_parts : (xs ys : List (ℕ × ℕ)) → Each (λ (r : ℕ × ℕ). r.1 ≤ 18000) (xs ++ ys) → Each (λ (r : ℕ × ℕ). r.1 ≤ 18000) xs × Each (λ (r : ℕ × ℕ). r.1 ≤ 18000) ys
 each_parts [] ys a = (tt, a)
 each_parts (x ∷ xs) ys a = let p = each_parts xs ys a.1 in ((a.0, p.0), p.1)
@@ -116,7 +113,7 @@ angles_rows (suc l) k t a = go (angles_rows l) t.1 a
   where
     go : ((k : ℕ) (p : Pay ℕ ℕ l) → Angles l p → Each (λ (r : ℕ × ℕ). r.1 ≤ 18000) (Rows ℕ ℕ l k p)) → (es : List (ℕ × Pay ℕ ℕ l)) → Every (Angles l) es → Each (λ (r : ℕ × ℕ). r.1 ≤ 18000) (flat (Rows ℕ ℕ l) es)
     go ih [] a = tt
-    go ih (e ∷ r) a = each_append (Rows ℕ ℕ l e.0 e.1) (flat (Rows ℕ ℕ l) r) (ih e.0 e.1 a.0) (go ih r a.1)
+    go ih (e ∷ r) a = All-append (λ (r : ℕ × ℕ). r.1 ≤ 18000) (Rows ℕ ℕ l e.0 e.1) (flat (Rows ℕ ℕ l) r) (ih e.0 e.1 a.0) (go ih r a.1)
 
 pub rows_angles : (l k : ℕ) (p : Pay ℕ ℕ l) → Each (λ (r : ℕ × ℕ). r.1 ≤ 18000) (Rows ℕ ℕ l k p) → Angles l p
 rows_angles zero k p a = a.0

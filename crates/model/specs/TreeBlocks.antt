@@ -1,5 +1,6 @@
 -- Trees on the blocks of a device; what a call makes of one; what a sound tree keeps.
 use Rattle.std.specs.Prelude.{◌≡◌, ℕ, zero, suc, ◌<◌, ◌≤◌, Bool, false, ◌||◌, List, [], ◌∷◌, map, ℤ, Some, None, Option, ◌==◌, slice_index}
+pub use Rattle.std.specs.List.{AllByRecursion as Each}
 use Rattle.device.specs.Meaning.{Content, Meaning, blocks_of, current_at}
 use Rattle.table.specs.Rows.{angle_of}
 use Rattle.page.specs.Block.{Block, block_in}
@@ -110,10 +111,6 @@ block_of l t = record { level = l; entries = map_e (payload l) t.1 }
 -- each block of the tree stands on the device
 abbrev pub Stored : (ℕ → Content) → Tree → Type 0
 Stored c t = All ℕ ℕ (λ l u. block_in (c u.0) ≡ Some (block_of l u)) (suc t.0) t.1
-
-abbrev pub Each : {A : Type 0} → (A → Type 0) → List A → Type 0
-Each P [] = Unit
-Each P (x ∷ xs) = P x × Each P xs
 
 -- in the layout, on tree blocks of a device of n blocks, its angles in range
 pub record Fit (n : ℕ) (t : Tree) : Type 0 where

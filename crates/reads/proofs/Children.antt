@@ -1,5 +1,6 @@
 -- A block of a sound tree and its children.
 use Rattle.std.proofs.Common.{◌≡◌, ℕ, zero, suc, ◌<◌, ◌≤◌, List, [], ◌∷◌, ◌++◌, length, get_or, take, drop, Some, sym, refl, ap, ◌∙◌, subst, ap₂, not-suc-le-zero, arith, append_assoc, append-nil, take-append-drop, length-append}
+use Rattle.std.proofs.ByRecursion.{All-append}
 use Rattle.device.specs.Meaning.{Content}
 use Rattle.page.specs.Block.{Block, block_in}
 use Rattle.tree.specs.Node.{flat, Every, map_e}
@@ -11,7 +12,7 @@ use Rattle.tree.proofs.Removes.{cell_le}
 use Rattle.model.specs.TreeBlocks.{entries_in, pay_at, payload, block_of, Each}
 use Rattle.model.proofs.Frames.{each_map}
 use Rattle.reads.specs.Sound.{Valid, held, rows_in, rows_at, Sound, FullAt}
-use Rattle.reads.proofs.Lists.{each_left, each_right, each_append, asc_below, asc_above}
+use Rattle.reads.proofs.Lists.{each_left, each_right, asc_below, asc_above}
 use Rattle.model.proofs.Walks.{payload_pay}
 
 module _ (c : ℕ → Content) where
@@ -99,7 +100,7 @@ module _ (c : ℕ → Content) where
   before l lo hi s [] i h k p = absurd (not-suc-le-zero h)
   before l lo hi s (e ∷ r) zero h k p = tt
   before l lo hi s (e ∷ r) (suc i) h k p =
-      each_append _ (rows_in c l (inside e.1)) (rows_in c (suc l) (take i r))
+      All-append _ (rows_in c l (inside e.1)) (rows_in c (suc l) (take i r))
       (each_map _ _ (λ x q. omega (arith, q, above_low l p.1.0 hi r i (omega arith) p.1.2)) (rows_in c l (inside e.1)) (asc_below e.0 p.1.0 (rows_in c l (inside e.1)) (cell_asc ℕ ℕ (suc l) e.0 p.1.0 (pay_at c (suc l) e.1) p.1.1)))
       (before l p.1.0 hi s r i (omega arith) k p.1.2)
 

@@ -5,10 +5,6 @@ use Rattle.tree.proofs.Segs.{asc_le}
 use Rattle.model.specs.TreeBlocks.{Each}
 
 module _ {A : Type 0} (P : A → Type 0) where
-  pub each_append : (xs ys : List A) → Each P xs → Each P ys → Each P (xs ++ ys)
-  each_append [] ys a b = b
-  each_append (x ∷ xs) ys a b = (a.0, each_append xs ys a.1 b)
-
   pub each_left : (xs ys : List A) → Each P (xs ++ ys) → Each P xs
   each_left [] ys a = tt
   each_left (x ∷ xs) ys a = (a.0, each_left xs ys a.1)

@@ -1,5 +1,6 @@
 -- A descent, block by block.
 use Rattle.std.proofs.Common.{◌≡◌, ℕ, zero, suc, ◌+◌, ◌<◌, ◌≤◌, ◌⊎◌, List, [], ◌∷◌, ◌++◌, length, take, drop, ℤ, Some, None, Option, inl, inr, sym, refl, ap, ◌∙◌, subst, not-suc-le-zero, arith, append_assoc, append-nil, length-drop}
+use Rattle.std.proofs.ByRecursion.{All-append}
 use Rattle.std.proofs.lemmas.List.{get_or-drop}
 use Rattle.std.proofs.lemmas.Bool.{cases_lt}
 use Rattle.std.specs.Option.{option_or}
@@ -10,7 +11,6 @@ use Rattle.model.specs.TreeBlocks.{Each}
 use Rattle.reads.specs.Sound.{Valid, rows_in, rows_at, Sound, FullAt}
 use Rattle.reads.specs.Descent.{child, child_before, Ends, Begins, Found}
 use Rattle.reads.specs.Lists.{due}
-use Rattle.reads.proofs.Lists.{each_append}
 use Rattle.reads.proofs.Written.{due_append, due_below}
 use Rattle.tree.specs.Node.{map_e}
 use Rattle.tree.proofs.Over.{map-append}
@@ -92,8 +92,8 @@ module _ (c : ℕ → Content) where
         before = bs ++ f.before;
         after = f.after ++ ys;
         cut = rw st (split c l es i h ∙ ap (λ (z : List (ℕ × ℕ)). bs ++ (z ++ ys)) (sym k.rows ∙ f.cut) ∙ around bs f.before found f.after ys);
-        low = each_append _ bs f.before (rows_before c l s es i h p past) f.low;
-        high = each_append _ f.after ys f.high (rows_after c l s es i h p high);
+        low = All-append _ bs f.before (rows_before c l s es i h p past) f.low;
+        high = All-append _ f.after ys f.high (rows_after c l s es i h p high);
         ends = ends_more left (child_before es i) bs f.before (ends_take l es i h p) f.ends;
         begins = begins_more right (child es (suc i)) f.after ys f.begins (begins_drop l es (suc i) p (cases_lt (suc i) (length es)));
         valid = f.valid;
