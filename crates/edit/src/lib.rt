@@ -9,7 +9,8 @@ ghost use Rattle.page.specs.View.{pair, view, entries};
 ghost use Rattle.counts.specs.Counts.{free_blocks};
 ghost use Rattle.counts.specs.Moves.{linking, run};
 ghost use Rattle.model.specs.TreeBlocks.{Change.begin, Change.puts, bare_tree, changed_on, tree_at, root_of, Good};
-ghost use Rattle.edit.specs.Plan.{parted, placed, links};
+ghost use Rattle.edit.specs.Plan.{placed, links};
+ghost use Rattle.edit.specs.Kids.{with_rest, Beside};
 ghost use Rattle.edit.specs.Remove.{RemoveKeeps, Removes};
 ghost use Rattle.edit.specs.Edited.{Editable, Granted, Edited};
 ghost use Rattle.edit.specs.Able.{Open, Able, Ready, Made};
@@ -18,7 +19,8 @@ mod kids;
 
 use counts::{Grant, Store};
 use device::Device;
-use kids::{HALF, Kids, part_for};
+use kids::split;
+pub use kids::{Kids, Rest};
 use page::page::{Entry, Page};
 use page::roots::Root;
 
@@ -28,60 +30,70 @@ pub fn remove_stands()
     ensures removes { Removes }
 {}
 
-// Writes two pages to two free blocks.
-pub fn link_two<D: Device>(store: &mut Store<D>, left: u32, right: u32, lower: &Page, upper: &Page)
-    requires on { (left < blocks_of store.old.0) × (right < blocks_of store.old.0) }
-    requires free { (slice_index store.old.1 left ≡ 0) × (slice_index store.old.1 right ≡ 0) }
-    requires apart { left ≢ right }
-    requires left { 2 ≤ store.old.0.left }
-    requires low { (lower.now.level < 5) × (upper.now.level < 5) }
-    ensures { store.new ≡ run (linking left (view lower.now) ∷ linking right (view upper.now) ∷ []) store.old }
-{
-    store.link(left, lower);
-    store.link(right, upper);
-}
-
-// Writes what stands for the child of an entry, once the part that a speed belongs to is made anew, to the next two blocks of the grant.
-fn link_kids<D: Device>(
+// Writes two pages to the next two blocks of the grant; the entries for them, under a key and a separator.
+fn link_two<D: Device>(
     store: &mut Store<D>,
     grant: &mut Grant,
-    entry: Entry,
-    child: &Page,
-    made: &Page,
-    speed: u32,
+    key: u32,
+    separator: u32,
+    lower: &Page,
+    upper: &Page,
 ) -> Kids
     requires places { Open store.old grant.old }
     requires two { 2 ≤ length grant.old }
     requires left { 2 ≤ store.old.0.left }
-    requires level { (child.now.level < 5) × (made.now.level ≡ child.now.level) }
-    ensures kids { map pair result.items ≡ map_e (λ c. c.0) (placed (slice_index grant.old 0) (slice_index grant.old 1) (parted speed entry.speed (entries child.now) (entries made.now))) }
-    ensures state { store.new ≡ run (links child.now.level (placed (slice_index grant.old 0) (slice_index grant.old 1) (parted speed entry.speed (entries child.now) (entries made.now)))) store.old }
+    requires small { (key < 268435456) × (separator < 268435456) }
+    requires low { (lower.now.level < 5) × (upper.now.level < 5) }
+    ensures kids { map pair result.items ≡ (key, slice_index grant.old 0) ∷ (separator, slice_index grant.old 1) ∷ [] }
+    ensures state { store.new ≡ run (linking (slice_index grant.old 0) (view lower.now) ∷ linking (slice_index grant.old 1) (view upper.now) ∷ []) store.old }
     ensures grant { grant.new ≡ drop 2 grant.old }
 {
     let left = Entry {
-        speed: entry.speed,
+        speed: key,
         value: grant.take(),
     };
-    if !child.entries.is_full() {
-        grant.give_back();
-        store.link(left.value, made);
-        let mut kids = Kids::new();
-        kids.push(left);
-        return kids;
-    }
-    let upper = child.part(HALF..child.entries.len());
     let right = Entry {
-        speed: upper.first_speed(),
+        speed: separator,
         value: grant.take(),
     };
-    let kids = Kids::from([left, right]);
-    if speed < right.speed {
-        link_two(store, left.value, right.value, made, &upper);
-        return kids;
+    store.link(left.value, lower);
+    store.link(right.value, upper);
+    Kids::from([left, right])
+}
+
+// Writes a page that was made anew, and what stands beside it, to the next two blocks of the grant; the entries for them, under a key.
+pub fn link_kids<D: Device>(
+    store: &mut Store<D>,
+    grant: &mut Grant,
+    key: u32,
+    made: &Page,
+    rest: &Rest,
+) -> Kids
+    requires places { Open store.old grant.old }
+    requires two { 2 ≤ length grant.old }
+    requires left { 2 ≤ store.old.0.left }
+    requires level { made.now.level < 5 }
+    requires key { key < 268435456 }
+    requires beside { Beside made.now.level rest.now }
+    ensures kids { map pair result.items ≡ map_e (λ c. c.0) (placed (slice_index grant.old 0) (slice_index grant.old 1) (with_rest key rest.now (entries made.now))) }
+    ensures state { store.new ≡ run (links made.now.level (placed (slice_index grant.old 0) (slice_index grant.old 1) (with_rest key rest.now (entries made.now)))) store.old }
+    ensures grant { grant.new ≡ drop 2 grant.old }
+{
+    match rest {
+        Rest::Nothing => {
+            let kid = Entry {
+                speed: key,
+                value: grant.take(),
+            };
+            grant.give_back();
+            store.link(kid.value, made);
+            let mut kids = Kids::new();
+            kids.push(kid);
+            kids
+        },
+        Rest::After(separator, page) => link_two(store, grant, key, *separator, made, page),
+        Rest::Before(separator, page) => link_two(store, grant, key, *separator, page, made),
     }
-    let lower = child.part(0..HALF);
-    link_two(store, left.value, right.value, &lower, made);
-    kids
 }
 
 // The page with a row put below it: its altered children are written and linked, the page itself is not.
@@ -97,9 +109,9 @@ fn put_in<D: Device>(store: &mut Store<D>, grant: &mut Grant, page: &Page, row: 
     let i = page.covering(row.speed);
     let entry = page.entries[i];
     let child = store.open(entry.value);
-    let part = part_for(&child, row.speed);
+    let (part, rest) = split(child, row.speed);
     let made = put_in(store, grant, &part, row);
-    let kids = link_kids(store, grant, entry, &child, &made, row.speed);
+    let kids = link_kids(store, grant, entry.speed, &made, &rest);
     page.spliced(i..i + 1, &kids)
 }
 

@@ -1,7 +1,8 @@
 -- A child that is filled, case by case.
-use Rattle.std.proofs.Common.{◌≡◌, ℕ, zero, suc, ◌+◌, ◌-◌, ◌<◌, ◌≤◌, List, [], ◌∷◌, ◌++◌, length, get_or, take, drop, Some, Option, sym, refl, ap, ◌∙◌, subst, ap₂, ⊎_elim, arith, length-append, length-drop, true, is_some}
+use Rattle.std.proofs.Common.{◌≡◌, ℕ, zero, suc, ◌+◌, ◌-◌, ◌<◌, ◌≤◌, List, [], ◌∷◌, ◌++◌, length, get_or, take, drop, Some, Option, sym, refl, ap, ◌∙◌, subst, ap₂, ⊎_elim, arith, true, is_some}
 use Rattle.std.proofs.lemmas.Bool.{cases_lt}
 use Rattle.device.specs.Meaning.{Meaning}
+use Rattle.tree.specs.Node.{first}
 use Rattle.tree.specs.Tree.{Pay, Tree, Cell}
 use Rattle.tree.proofs.Over.{map_length}
 use Rattle.tree.proofs.Steps.{map_get, every_get}
@@ -15,12 +16,12 @@ use Rattle.counts.proofs.Opens.{recount, open_counted, few_kids, occ_le, held_al
 use Rattle.counts.specs.Moves.{opening, State, step, Owned}
 use Rattle.edit.specs.Plan.{shallow, page, node_of, kids, Stored}
 use Rattle.edit.proofs.Downs.{kids_append, kids_around, kids_le, shallow_length}
-use Rattle.removal.specs.declared.filled.Neighbour.TheVariants.{Apart, Merged, After, Before}
-use Rattle.removal.specs.Split.{after, before}
+use Rattle.edit.specs.declared.kids.Rest.TheVariants.{Nothing, After, Before}
 use Rattle.removal.specs.Able.{Ready, AbleIndex, At, Filling}
 use Rattle.removal.proofs.Indexed.{Covers, cut_two, seg_pair}
 use Rattle.removal.proofs.Splits.{right_apart, right_merged, right_moved, left_apart, left_merged, left_moved}
 use Rattle.removal.proofs.Flat.{flat_append, flat_take, flat_drop}
+use Rattle.removal.proofs.Splicing.{first_small}
 
 module _ (m : Meaning) (cs : List ℕ) (n : Block) (s l : ℕ) (es : List (ℕ × Tree ℕ ℕ l)) (p : Ready (m, cs) n s (suc l) es) where
   abbrev D : ℕ × Tree ℕ ℕ l
@@ -103,22 +104,22 @@ module _ (m : Meaning) (cs : List ℕ) (n : Block) (s l : ℕ) (es : List (ℕ �
 
   -- the child is not short
   pub fill_apart : (i key b : ℕ) → At n s i → get_or n.entries i (0, 0) ≡ (key, b) → (x : Page) → block_at m b ≡ Some (view x) → ((length x.entries.items) ≡ 7 → ⊥) → (q : State) → q ≡ step (opening b) (m, cs)
-      → Filling (m, cs) q s l es (record { at = i; part = x; neighbour = Apart })
+      → (end : ℕ) → end ≡ suc i → Filling (m, cs) q s l es (record { at = i; end = end; part = x; rest = Nothing })
   unfolding right_apart left_apart
-  fill_apart i key b a eb x t long q e =
+  fill_apart i key b a eb x t long q e end past =
       let c = covers_of i a in
       let bi = number i key b eb in
       let v = child_is i b c.within bi (view x) t in
       let two : 2 ≤ length es = p.enough (omega arith) in
       let ln = child_len i two c.within x v in
       let to : q ≡ step (opening (get_or es i D).1.0) (m, cs) = e ∙ ap (λ (z : ℕ). step (opening z) (m, cs)) bi in
-      go i c v (λ o. long (omega (arith, ln.0, o))) to two
+      go i past c v (λ o. long (omega (arith, ln.0, o))) to two
     where
-      go : (i : ℕ) → Covers s es i D → view x ≡ node_of l (get_or es i D).1.1 → (length (get_or es i D).1.1 ≡ 7 → ⊥) → q ≡ step (opening (get_or es i D).1.0) (m, cs) → 2 ≤ length es → Filling (m, cs) q s l es (record { at = i; part = x; neighbour = Apart })
-      go zero c v o to two = record { split = right_apart s l es 0 p.lo p.hi p.span two c.low (c.high two) o; at = refl; part = v; side = refl; whole = tt; state = to }
-      go (suc i) c v o to two = ⊎_elim
-          (λ r. record { split = right_apart s l es (suc i) p.lo p.hi p.span r c.low (c.high r) o; at = refl; part = v; side = refl; whole = tt; state = to })
-          (λ r. record { split = left_apart s l es i p.lo p.hi p.span (omega (arith, c.within)) c.low p.high o; at = refl; part = v; side = refl; whole = tt; state = to })
+      go : (i : ℕ) → end ≡ suc i → Covers s es i D → view x ≡ node_of l (get_or es i D).1.1 → (length (get_or es i D).1.1 ≡ 7 → ⊥) → q ≡ step (opening (get_or es i D).1.0) (m, cs) → 2 ≤ length es → Filling (m, cs) q s l es (record { at = i; end = end; part = x; rest = Nothing })
+      go zero past c v o to two = record { split = right_apart s l es 0 p.lo p.hi p.span two c.low (c.high two) o; at = refl; end = past; part = v; rest = λ k made. refl; beside = tt; state = to }
+      go (suc i) past c v o to two = ⊎_elim
+          (λ r. record { split = right_apart s l es (suc i) p.lo p.hi p.span r c.low (c.high r) o; at = refl; end = past; part = v; rest = λ k made. refl; beside = tt; state = to })
+          (λ r. record { split = left_apart s l es i p.lo p.hi p.span (omega (arith, c.within)) c.low p.high o; at = refl; end = past; part = v; rest = λ k made. refl; beside = tt; state = to })
           (cases_lt (suc (suc i)) (length es))
 
   -- two neighbours, from i on: the pages x and y
@@ -153,28 +154,30 @@ module _ (m : Meaning) (cs : List ℕ) (n : Block) (s l : ℕ) (es : List (ℕ �
         abbrev c : Covers s es i D
         c = covers_of i a
 
-        pub fill_right_merged : (length y.entries.items) ≡ 7 → (part : Page) → part.level ≡ x.level → entries part ≡ entries x ++ entries y → Filling (m, cs) q₂ s l es (record { at = i; part = part; neighbour = Merged })
+        pub fill_right_merged : (length y.entries.items) ≡ 7 → (part : Page) → part.level ≡ x.level → entries part ≡ entries x ++ entries y → Filling (m, cs) q₂ s l es (record { at = i; end = i + 2; part = part; rest = Nothing })
         unfolding right_merged
         fill_right_merged o part lv these = record {
           split = right_merged s l es i p.lo p.hi p.span h c.low (c.high h) (omega (arith, x_len.0)) (omega (arith, y_len.0));
           at = refl;
+          end = omega arith;
           part = joined_is part (lv ∙ x_len.3) these;
-          side = refl;
-          whole = tt;
+          rest = λ k made. refl;
+          beside = tt;
           state = both;
         }
 
         pub fill_right_moved : ((length y.entries.items) ≡ 7 → ⊥) → (part rest : Page) → part.level ≡ x.level → entries part ≡ entries x ++ take 1 (entries y) → rest.level ≡ y.level → entries rest ≡ drop 1 (entries y)
-            → Filling (m, cs) q₂ s l es (record { at = i; part = part; neighbour = After rest })
+            → (sep : ℕ) → sep ≡ first (entries rest) → Filling (m, cs) q₂ s l es (record { at = i; end = i + 2; part = part; rest = After sep rest })
         unfolding right_moved
-        fill_right_moved o part rest lv these lr left =
+        fill_right_moved o part rest lv these lr left sep first_is =
             let ry : entries rest ≡ shallow l (drop 1 ys) = left ∙ ap (λ (u : Block). drop 1 u.entries) y_is ∙ flat_drop l 1 ys in
             record {
               split = right_moved s l es i p.lo p.hi p.span h c.low (c.high h) (omega (arith, x_len.0)) (λ z. o (omega (arith, y_len.0)));
               at = refl;
+              end = omega arith;
               part = ap₂ page (lv ∙ x_len.3) (these ∙ ap₂ (λ (u v : Block). u.entries ++ take 1 v.entries) x_is y_is ∙ ap (λ (u : List (ℕ × ℕ)). shallow l xs ++ u) (flat_take l 1 ys) ∙ flat_append l xs (take 1 ys));
-              side = ap after ry;
-              whole = (lr ∙ y_len.3, omega (arith, entries_length rest, ap length ry, shallow_length l (drop 1 ys), length-drop 1 ys, y_len.0, y_len.1));
+              rest = λ k made. ap₂ (λ (i : ℕ) (zs : List (ℕ × ℕ)). (k, made) ∷ (i, zs) ∷ []) (first_is ∙ ap first ry) ry;
+              beside = (lr ∙ y_len.3, omega (arith, first_is, first_small rest));
               state = both;
             }
 
@@ -182,30 +185,33 @@ module _ (m : Meaning) (cs : List ℕ) (n : Block) (s l : ℕ) (es : List (ℕ �
         abbrev c₂ : Covers s es (suc i) D
         c₂ = covers_of (suc i) a
 
-        pub fill_left_merged : (length x.entries.items) ≡ 7 → (part : Page) → part.level ≡ x.level → entries part ≡ entries x ++ entries y → Filling (m, cs) q₂ s l es (record { at = i; part = part; neighbour = Merged })
+        pub fill_left_merged : (length x.entries.items) ≡ 7 → (part : Page) → part.level ≡ x.level → entries part ≡ entries x ++ entries y → Filling (m, cs) q₂ s l es (record { at = i; end = i + 2; part = part; rest = Nothing })
         unfolding left_merged
         fill_left_merged o part lv these = record {
           split = left_merged s l es i p.lo p.hi p.span last c₂.low p.high (omega (arith, y_len.0)) (omega (arith, x_len.0));
           at = refl;
+          end = omega arith;
           part = joined_is part (lv ∙ x_len.3) these;
-          side = refl;
-          whole = tt;
+          rest = λ k made. refl;
+          beside = tt;
           state = both;
         }
 
         pub fill_left_moved : ((length x.entries.items) ≡ 7 → ⊥) → (part rest : Page) → part.level ≡ y.level → entries part ≡ drop (length (entries x) - 1) (entries x) ++ entries y → rest.level ≡ x.level → entries rest ≡ take ((length x.entries.items) - 1) (entries x)
-            → Filling (m, cs) q₂ s l es (record { at = i; part = part; neighbour = Before rest })
+            → (sep : ℕ) → sep ≡ first (entries part) → Filling (m, cs) q₂ s l es (record { at = i; end = i + 2; part = part; rest = Before sep rest })
         unfolding left_moved
-        fill_left_moved o part rest lv these lr left =
+        fill_left_moved o part rest lv these lr left sep first_is =
             let k : ℕ = length xs - 1 in
             let nx : length (entries x) ≡ length xs = entries_length x ∙ x_len.0 in
             let pe : entries part ≡ shallow l (drop k xs ++ ys) = these ∙ ap (λ (z : ℕ). drop (z - 1) (entries x) ++ entries y) nx ∙ ap₂ (λ (u v : Block). drop k u.entries ++ v.entries) x_is y_is ∙ ap (λ (u : List (ℕ × ℕ)). u ++ shallow l ys) (flat_drop l k xs) ∙ flat_append l (drop k xs) ys in
             record {
               split = left_moved s l es i p.lo p.hi p.span last c₂.low p.high (omega (arith, y_len.0)) (λ z. o (omega (arith, x_len.0)));
               at = refl;
+              end = omega arith;
               part = ap₂ page (lv ∙ y_len.3) pe;
-              side = ap before (left ∙ ap (λ (z : ℕ). take (z - 1) (entries x)) x_len.0 ∙ ap (λ (u : Block). take k u.entries) x_is ∙ flat_take l k xs);
-              whole = (lr ∙ x_len.3, omega (arith, entries_length part, ap length pe, shallow_length l (drop k xs ++ ys), length-append (drop k xs) ys, y_len.0, y_len.1));
+              rest = λ key' made. ap₂ (λ (i : ℕ) (zs : List (ℕ × ℕ)). (key', zs) ∷ (i, made) ∷ []) (first_is ∙ ap first pe)
+                  (left ∙ ap (λ (z : ℕ). take (z - 1) (entries x)) x_len.0 ∙ ap (λ (u : Block). take k u.entries) x_is ∙ flat_take l k xs);
+              beside = (lr ∙ x_len.3, omega (arith, first_is, first_small part));
               state = both;
             }
 

@@ -5,11 +5,12 @@ use Rattle.tree.specs.Node.{del, Every, map_e}
 use Rattle.tree.specs.Tree.{Pay, Tree, Span}
 use Rattle.tree.proofs.Over.{map-append, map_take, map_drop}
 use Rattle.page.specs.Block.{Block, block_at}
-use Rattle.page.specs.View.{view, entries}
+use Rattle.page.specs.View.{view}
 use Rattle.counts.specs.Counts.{occ, Counted}
 use Rattle.counts.proofs.Opens.{recount}
 use Rattle.counts.specs.Moves.{Move, State, Shaped, run, writes, Laid}
 use Rattle.edit.specs.Plan.{shallow, page, kids, Stored, placed, links}
+use Rattle.edit.specs.Kids.{with_rest}
 use Rattle.edit.specs.Able.{Open}
 use Rattle.edit.specs.Kept.{Free}
 use Rattle.edit.specs.Fill.{opens, below}
@@ -21,7 +22,7 @@ use Rattle.edit.proofs.Anyhow.{links_writes, place}
 use Rattle.edit.proofs.Removes.{remove_keeps}
 use Rattle.removal.specs.declared.filled.Filled.{Filled}
 use Rattle.removal.specs.Split.{Side, apart, merged, after, before, past, parts, rest_of, key_at, over_side, Split}
-use Rattle.removal.specs.Able.{Ready, Able, AbleIndex, Room, side_of, Filling, Made}
+use Rattle.removal.specs.Able.{Ready, Able, AbleIndex, Room, Fits, Filling, Made}
 use Rattle.removal.proofs.Splits.{splits}
 use Rattle.removal.proofs.Flat.{flat_parts, flat_past, every_inner}
 use Rattle.removal.proofs.Fillings.{len, entry}
@@ -39,6 +40,12 @@ two_parts k apart work made = omega arith
 two_parts k merged work made = omega arith
 two_parts k (after rest) work made = omega arith
 two_parts k (before rest) work made = omega arith
+
+past_more : {X : Type 0} (i k : ℕ) (side : Side X) (work made : List (ℕ × X)) → (i < past i side) × (i + length (parts k side work made) ≤ past i side)
+past_more i k apart work made = (omega arith, omega arith)
+past_more i k merged work made = (omega arith, omega arith)
+past_more i k (after rest) work made = (omega arith, omega arith)
+past_more i k (before rest) work made = (omega arith, omega arith)
 
 -- at most two writes a level
 pub rem_writes : (gs : List ℕ) (s l lo hi : ℕ) (es : List (ℕ × Pay ℕ ℕ l)) → Span ℕ ℕ l lo hi es → lo ≤ s → s < hi → (0 < l → 2 ≤ length es) → writes (rem_moves gs s l es) ≤ 2 * l
@@ -109,6 +116,10 @@ module _ (m : Meaning) (cs : List ℕ) (n : Block) (s l : ℕ) (es : List (ℕ �
         modest = λ b. omega (arith, around b, kids_le b (suc l) es, p.few, p.modest b, kids_le b l (rest_of S.side), S.rest_few);
       }
 
+  -- the parts take no more room than the children that they replace
+  pub fits : Fits f
+  fits = (omega (arith, F.at, F.end, (past_more S.at 0 S.side [] []).0), λ k made. omega (arith, F.at, F.end, ap length (F.rest k made), (past_more S.at k (over_side (shallow l) S.side) (shallow l S.work) made).1, flat_past l S.at S.side))
+
   pub part_level : f.part.level ≡ l
   part_level = ap (λ (x : Block). x.level) F.part
 
@@ -171,8 +182,8 @@ module _ (m : Meaning) (cs : List ℕ) (n : Block) (s l : ℕ) (es : List (ℕ �
             };
           }
 
-    pub within : past f.at (side_of f.neighbour) ≤ length n.entries
-    within = omega (arith, S.within, len m cs n s l es p, ap₂ (λ (i : ℕ) (d : Side ℕ). past i d) F.at F.side, flat_past l S.at S.side)
+    pub within : f.end ≤ length n.entries
+    within = omega (arith, S.within, len m cs n s l es p, F.end)
 
     abbrev X : ℕ
     X = get_or gs (2 * l) 0
@@ -184,16 +195,16 @@ module _ (m : Meaning) (cs : List ℕ) (n : Block) (s l : ℕ) (es : List (ℕ �
     ps = parts (key_at l es S.at) S.side S.work (rem_n gs s l S.work)
 
     abbrev seen : List (ℕ × List (ℕ × ℕ))
-    seen = parts (get_or n.entries f.at (0, 0)).0 (side_of f.neighbour) (entries f.part) made.entries
+    seen = with_rest (get_or n.entries f.at (0, 0)).0 f.rest made.entries
 
     flat_is : seen ≡ map_e (shallow l) ps
     flat_is =
-        ap₂ (λ (k : ℕ) (d : Side ℕ). parts k d (entries f.part) made.entries) (ap (λ (i : ℕ). (get_or n.entries i (0, 0)).0) F.at ∙ ap (λ (x : ℕ × ℕ). x.0) (entry m cs n s l es p S.at)) F.side
-        ∙ ap₂ (λ (u v : Block). parts (key_at l es S.at) (over_side (shallow l) S.side) u.entries v.entries) F.part M.is
+        F.rest _ made.entries
+        ∙ ap₂ (λ (k : ℕ) (v : Block). parts k (over_side (shallow l) S.side) (shallow l S.work) v.entries) (ap (λ (i : ℕ). (get_or n.entries i (0, 0)).0) F.at ∙ ap (λ (x : ℕ × ℕ). x.0) (entry m cs n s l es p S.at)) M.is
         ∙ flat_parts l (key_at l es S.at) S.side S.work (rem_n gs s l S.work)
 
     pub up : (hs : List ℕ) → hs ≡ drop (2 * f.part.level) gs → (q₃ : State) (r : Block) → r.level ≡ n.level
-        → r.entries ≡ take f.at n.entries ++ (map_e (λ c. c.0) (placed (get_or hs 0 0) (get_or hs 1 0) seen) ++ drop (past f.at (side_of f.neighbour)) n.entries)
+        → r.entries ≡ take f.at n.entries ++ (map_e (λ c. c.0) (placed (get_or hs 0 0) (get_or hs 1 0) seen) ++ drop f.end n.entries)
         → q₃ ≡ run (links made.level (placed (get_or hs 0 0) (get_or hs 1 0) seen)) q₂ → Laid q₂.0.width (links made.level (placed (get_or hs 0 0) (get_or hs 1 0) seen))
         → Made (m, cs) q₃ gs s (suc l) es r
     up hs taken q₃ r lv these state laid =
@@ -203,9 +214,8 @@ module _ (m : Meaning) (cs : List ℕ) (n : Block) (s l : ℕ) (es : List (ℕ �
         let ls = links l (map_e (λ c. (c.0, shallow l c.1)) (placed X Y ps)) in
         let lk : links made.level (placed (get_or hs 0 0) (get_or hs 1 0) seen) ≡ ls = ap₂ (λ (i : ℕ) (z : List (ℕ × (ℕ × List (ℕ × ℕ)))). links i z) made_level (pl ∙ placed_map (shallow l) X Y ps) in
         let keys : map_e (λ c. c.0) (placed (get_or hs 0 0) (get_or hs 1 0) seen) ≡ map_e H (placed X Y ps) = ap (map_e (λ c. c.0)) pl ∙ placed_keys (shallow l) X Y ps in
-        let pst : past f.at (side_of f.neighbour) ≡ past S.at S.side = ap₂ (λ (i : ℕ) (d : Side ℕ). past i d) F.at F.side ∙ flat_past l S.at S.side in
         let tk : take f.at n.entries ≡ map_e H (take S.at es) = ap₂ (λ (i : ℕ) (x : Block). take i x.entries) F.at p.is ∙ sym (map_take H S.at es) in
-        let dr : drop (past f.at (side_of f.neighbour)) n.entries ≡ map_e H (drop (past S.at S.side) es) = ap₂ (λ (i : ℕ) (x : Block). drop i x.entries) pst p.is ∙ sym (map_drop H (past S.at S.side) es) in
+        let dr : drop f.end n.entries ≡ map_e H (drop (past S.at S.side) es) = ap₂ (λ (i : ℕ) (x : Block). drop i x.entries) F.end p.is ∙ sym (map_drop H (past S.at S.side) es) in
         let sh = S.shrinks gs (rem_n gs s l) in
         let mv = S.moves gs (rem_n gs s l) (rem_moves gs s l) in
         let w₁ : q₁.0.width ≡ m.width = (same_by (opens S.mid) (m, cs) q₁ F.state).width in

@@ -3,7 +3,6 @@ pub mod Splits
 pub mod Flat
 pub mod Fillings
 pub mod Splicing
-pub mod Linking
 pub mod Levels
 pub mod Numbers
 pub mod Roots

@@ -1,6 +1,7 @@
 -- Pages to which code adds the entries of a neighbour, or one of them.
 use Rattle.std.proofs.Common.{◌≡◌, ℕ, suc, ◌-◌, ◌<◌, List, [], ◌∷◌, ◌++◌, map, length, get_or, take, drop, slice_range, sym, refl, ap, ◌∙◌, ap₂, append-nil, not-suc-le-zero, arith, length-drop}
 use Rattle.std.proofs.lemmas.List.{take_all, drop_all}
+use Rattle.tree.specs.Node.{first}
 use Rattle.page.specs.View.{pair, entries}
 use Rattle.page.specs.declared.page.Page.{Page}
 use Rattle.page.specs.declared.page.Entry.{Entry}
@@ -42,3 +43,11 @@ but_last p n e = ap₂ (λ (k : ℕ) (es : List (ℕ × ℕ)). take k es) (omega
     none : (es : List (ℕ × ℕ)) → drop 0 es ≡ es
     none [] = refl
     none (x ∷ es) = refl
+
+-- a page's first speed fits an entry
+pub first_small : (p : Page) → first (entries p) < 268435456
+first_small p = go p.entries.items
+  where
+    go : (xs : List Entry) → first (map pair xs) < 268435456
+    go [] = omega arith
+    go (x ∷ xs) = x.small.0

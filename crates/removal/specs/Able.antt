@@ -9,12 +9,11 @@ use Rattle.counts.specs.Counts.{occ, Counted}
 use Rattle.counts.specs.Moves.{State, run, Laid}
 use Rattle.edit.specs.Plan.{shallow, node_of, kids, Stored}
 use Rattle.edit.specs.Kept.{Free}
+use Rattle.edit.specs.Kids.{with_rest, Beside}
 use Rattle.edit.specs.Fill.{opens}
 use Rattle.edit.specs.Remove.{rem_n, rem_moves}
-use Rattle.removal.specs.declared.filled.Neighbour.{Neighbour}
-use Rattle.removal.specs.declared.filled.Neighbour.TheVariants.{Apart, Merged, After, Before}
 use Rattle.removal.specs.declared.filled.Filled.{Filled}
-use Rattle.removal.specs.Split.{Side, apart, merged, after, before, past, parts, over_side, Split}
+use Rattle.removal.specs.Split.{past, parts, over_side, Split}
 
 -- The page n holds the entries es of level l, which cover speed s; their children are in the store and referred to.
 pub record Ready (q : State) (n : Block) (s l : ℕ) (es : List (ℕ × Pay ℕ ℕ l)) : Type 0 where
@@ -54,35 +53,22 @@ pub record At (n : Block) (s i : ℕ) : Type 0 where
   pub low : (k : ℕ) → k < i → (slice_index_or n.entries (suc k) (0, 0)).0 ≤ s
   pub high : suc i < length n.entries → s < (slice_index_or n.entries (suc i) (0, 0)).0
 
--- the neighbour in memory
-abbrev pub side_of : Neighbour → Side ℕ
-side_of Apart = apart
-side_of Merged = merged
-side_of (After p) = after (entries p)
-side_of (Before p) = before (entries p)
-
--- what is left of the neighbour has level l, and what gives the right part its separator is not empty
-abbrev pub Whole : ℕ → Page → Neighbour → Type 0
-Whole l part Apart = Unit {0}
-Whole l part Merged = Unit {0}
-Whole l part (After p) = (p.level ≡ l) × (0 < length p.entries.items)
-Whole l part (Before p) = (p.level ≡ l) × (0 < length part.entries.items)
-
 -- the parts that stand for a filled child, once made is the part's page
 abbrev pub parts_of : Page → Filled → Page → List (ℕ × List (ℕ × ℕ))
-parts_of p f made = parts (slice_index_or (entries p) f.at (0, 0)).0 (side_of f.neighbour) (entries f.part) (entries made)
+parts_of p f made = with_rest (slice_index_or (entries p) f.at (0, 0)).0 f.rest (entries made)
 
--- the place after the children that they replace
-abbrev pub end_of : Filled → ℕ
-end_of f = past f.at (side_of f.neighbour)
+-- f replaces one child or more, and no fewer than its parts
+abbrev pub Fits : Filled → Type 0
+Fits f = (f.at < f.end) × ((k : ℕ) (made : List (ℕ × ℕ)) → f.at + length (with_rest k f.rest made) ≤ f.end)
 
 -- f is the split of the children es, which are opened.
 pub record Filling (q q' : State) (s l : ℕ) (es : List (ℕ × Tree ℕ ℕ l)) (f : Filled) : Type 0 where
   pub split : Split s l es
   pub at : f.at ≡ split.at
+  pub end : f.end ≡ past split.at split.side
   pub part : view f.part ≡ node_of l split.work
-  pub side : side_of f.neighbour ≡ over_side (shallow l) split.side
-  pub whole : Whole l f.part f.neighbour
+  pub rest : (k : ℕ) (made : List (ℕ × ℕ)) → with_rest k f.rest made ≡ parts k (over_side (shallow l) split.side) (shallow l split.work) made
+  pub beside : Beside l f.rest
   pub state : q' ≡ run (opens split.mid) q
 
 -- r is the page with speed s removed below it: its altered children are written and linked.

@@ -10,17 +10,18 @@ ghost use Rattle.counts.specs.Counts.{free_blocks};
 ghost use Rattle.counts.specs.Moves.{run, Shaped};
 ghost use Rattle.model.specs.TreeBlocks.{Change.takes, changed_on, tree_at, root_of, Good};
 ghost use Rattle.edit.specs.Plan.{placed, links};
+ghost use Rattle.edit.specs.Kids.{Beside};
 ghost use Rattle.edit.specs.Able.{Open};
 ghost use Rattle.edit.specs.Edited.{Editable, Granted, Edited};
-ghost use Rattle.removal.specs.Able.{Ready, Able, AbleIndex, Room, At, Whole, parts_of, end_of, Filling, Made};
+ghost use Rattle.removal.specs.Able.{Ready, Able, AbleIndex, Room, At, parts_of, Fits, Filling, Made};
 
 mod filled;
 
 use counts::{Grant, Store};
 use device::Device;
-use edit::link_two;
-use filled::{Filled, Neighbour};
-use page::page::{Entry, Page};
+use edit::{Rest, link_kids};
+use filled::Filled;
+use page::page::Page;
 use page::roots::Root;
 
 // How many entries a block has at least, save a root.
@@ -38,22 +39,27 @@ fn fill_right<D: Device>(store: &mut Store<D>, page: &Page, i: usize, speed: u32
     if child.entries.len() != FEWEST {
         return Filled {
             at: i,
+            end: i + 1,
             part: child,
-            neighbour: Neighbour::Apart,
+            rest: Rest::Nothing,
         };
     }
     let after = store.open(page.entries[i + 1].value);
     if after.entries.len() == FEWEST {
         return Filled {
             at: i,
+            end: i + 2,
             part: child.spliced(FEWEST..FEWEST, &after.entries),
-            neighbour: Neighbour::Merged,
+            rest: Rest::Nothing,
         };
     }
+    let part = child.spliced(FEWEST..FEWEST, &[after.entries[0]]);
+    let rest = after.part(1..after.entries.len());
     Filled {
         at: i,
-        part: child.spliced(FEWEST..FEWEST, &[after.entries[0]]),
-        neighbour: Neighbour::After(after.part(1..after.entries.len())),
+        end: i + 2,
+        part,
+        rest: Rest::After(rest.first_speed(), rest),
     }
 }
 
@@ -71,8 +77,9 @@ fn fill_left<D: Device>(store: &mut Store<D>, page: &Page, i: usize, speed: u32)
         store.open_page(last, &child);
         return Filled {
             at: i + 1,
+            end: i + 2,
             part: child,
-            neighbour: Neighbour::Apart,
+            rest: Rest::Nothing,
         };
     }
     let before = store.open(page.entries[i].value);
@@ -81,14 +88,18 @@ fn fill_left<D: Device>(store: &mut Store<D>, page: &Page, i: usize, speed: u32)
     if len == FEWEST {
         return Filled {
             at: i,
+            end: i + 2,
             part: before.spliced(FEWEST..FEWEST, &child.entries),
-            neighbour: Neighbour::Merged,
+            rest: Rest::Nothing,
         };
     }
+    let part = child.spliced(0..0, &[before.entries[len - 1]]);
+    let rest = before.part(0..len - 1);
     Filled {
         at: i,
-        part: child.spliced(0..0, &[before.entries[len - 1]]),
-        neighbour: Neighbour::Before(before.part(0..len - 1)),
+        end: i + 2,
+        rest: Rest::Before(part.first_speed(), rest),
+        part,
     }
 }
 
@@ -118,42 +129,17 @@ fn link_parts<D: Device>(
     requires two { 2 ≤ length grant.old }
     requires left { 2 ≤ store.old.0.left }
     requires level { made.now.level < 5 }
-    requires whole { Whole made.now.level filled.now.part filled.now.neighbour }
-    requires within { end_of filled.now ≤ length page.now.entries.items }
+    requires beside { Beside made.now.level filled.now.rest }
+    requires fits { Fits filled.now }
+    requires within { filled.now.end ≤ length page.now.entries.items }
     ensures level { result.level ≡ page.now.level }
-    ensures these { entries result ≡ take filled.now.at (entries page.now) ++ (map_e (λ c. c.0) (placed (slice_index grant.old 0) (slice_index grant.old 1) (parts_of page.now filled.now made.now)) ++ drop (end_of filled.now) (entries page.now)) }
+    ensures these { entries result ≡ take filled.now.at (entries page.now) ++ (map_e (λ c. c.0) (placed (slice_index grant.old 0) (slice_index grant.old 1) (parts_of page.now filled.now made.now)) ++ drop filled.now.end (entries page.now)) }
     ensures state { store.new ≡ run (links made.now.level (placed (slice_index grant.old 0) (slice_index grant.old 1) (parts_of page.now filled.now made.now))) store.old }
     ensures grant { grant.new ≡ drop 2 grant.old }
 {
-    let at = filled.at;
-    let end = at + filled.replaced();
-    let left = Entry {
-        speed: page.entries[at].speed,
-        value: grant.take(),
-    };
-    match &filled.neighbour {
-        Neighbour::Apart | Neighbour::Merged => {
-            grant.give_back();
-            store.link(left.value, made);
-            page.spliced(at..end, &[left])
-        },
-        Neighbour::After(rest) => {
-            let right = Entry {
-                speed: rest.first_speed(),
-                value: grant.take(),
-            };
-            link_two(store, left.value, right.value, made, rest);
-            page.spliced(at..end, &[left, right])
-        },
-        Neighbour::Before(rest) => {
-            let right = Entry {
-                speed: filled.part.first_speed(),
-                value: grant.take(),
-            };
-            link_two(store, left.value, right.value, rest, made);
-            page.spliced(at..end, &[left, right])
-        },
-    }
+    let key = page.entries[filled.at].speed;
+    let kids = link_kids(store, grant, key, made, &filled.rest);
+    page.spliced(filled.at..filled.end, &kids)
 }
 
 // The page with a speed removed below it: its altered children are written and linked, the page itself is not.

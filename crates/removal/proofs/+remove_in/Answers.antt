@@ -2,10 +2,11 @@ use Rattle.std.proofs.Common.{◌≡◌, ℕ, suc, ◌+◌, ◌*◌, ◌<◌, dr
 use Rattle.page.specs.View.{view}
 use Rattle.page.proofs.Pages.{entries_length}
 use Rattle.counts.specs.Moves.{Shaped}
-use Rattle.removal.specs.Able.{AbleIndex, Room, Whole, Filling, Made}
+use Rattle.removal.specs.Able.{AbleIndex, Room, Filling, Made}
 use Rattle.removal.proofs.Fillings.{two}
-use Rattle.removal.proofs.Linking.{parts_laid}
-use Rattle.removal.proofs.Levels.{Linkable, leaf_made, index_able, index_made, level_is, part_ready, part_level, part_room, made_level, linkable, within, up}
+use Rattle.edit.specs.Kids.{Beside}
+use Rattle.edit.proofs.Laying.{parts_laid}
+use Rattle.removal.proofs.Levels.{Linkable, leaf_made, index_able, index_made, level_is, part_ready, part_level, part_room, made_level, fits, linkable, within, up}
 use Rattle.removal.proofs.+remove_in.Given.{Over}
 use Rattle.removal.proofs.+remove_in.Goals.{After-fill-filled, After-remove_in-made}
 use Rattle.removal.proofs.+remove_in.Goals as goal
@@ -70,8 +71,8 @@ module _ (g : Over) (t : ℕ) (c : After-remove_in-made g t) (a : AbleIndex c.ar
   link : Linkable c.remove_in-made.new.store c.remove_in-made.new.grant
   link = linkable _ _ _ _ _ _ a.ready _ _ f _ _ _ M _ c.remove_in-made.ensures.grant (omega (arith, c.requires.enough, level)) room shape
 
-  kept : Whole c.remove_in-made.result.level c.fill-filled.result.part c.fill-filled.result.neighbour
-  kept = subst (λ (k : ℕ). Whole k c.fill-filled.result.part c.fill-filled.result.neighbour) (sym flat) f.whole
+  kept : Beside c.remove_in-made.result.level c.fill-filled.result.rest
+  kept = subst (λ (k : ℕ). Beside k c.fill-filled.result.rest) (sym flat) f.beside
 
   low : c.remove_in-made.result.level < 5
   low = omega (arith, flat, level, c.args.page.now.few.1)
@@ -86,7 +87,8 @@ link_parts-requires g t c =
       two = L.two;
       left = L.left;
       level = low g t m (A g t d) (F g t d) (room g t d) (level g t d) c.fill-filled.ensures.shape;
-      whole = kept g t m (A g t d) (F g t d) (room g t d) (level g t d) c.fill-filled.ensures.shape;
+      beside = kept g t m (A g t d) (F g t d) (room g t d) (level g t d) c.fill-filled.ensures.shape;
+      fits = fits _ _ _ _ _ _ (A g t d).ready _ _ (F g t d);
       within = omega (arith, within _ _ _ _ _ _ (A g t d).ready _ _ (F g t d) _ _ _ (M g t m (A g t d) (F g t d) (room g t d) (level g t d) c.fill-filled.ensures.shape), entries_length c.args.page.now);
     }
 
@@ -99,7 +101,7 @@ returns-clause-made g t c =
     let f = c.fill-filled.ensures.filling l es p in
     up _ _ _ _ _ _ p _ _ f _ _ _ (c.remove_in-made.ensures.made l f.split.work (part_ready _ _ _ _ _ _ p _ _ f)) _ c.remove_in-made.ensures.grant c.link_parts.new.store (view c.link_parts.result)
     c.link_parts.ensures.level c.link_parts.ensures.these c.link_parts.ensures.state
-    (parts_laid c.args.page.now c.fill-filled.result c.remove_in-made.result _ _ _ L.wide (low g t m (A g t d) (F g t d) (room g t d) (level g t d) c.fill-filled.ensures.shape) (kept g t m (A g t d) (F g t d) (room g t d) (level g t d) c.fill-filled.ensures.shape)))
+    (parts_laid c.remove_in-made.result c.fill-filled.result.rest _ _ _ _ L.wide (low g t m (A g t d) (F g t d) (room g t d) (level g t d) c.fill-filled.ensures.shape) (kept g t m (A g t d) (F g t d) (room g t d) (level g t d) c.fill-filled.ensures.shape)))
 
 pub returns-clause-grant : goal.returns-clause-grant
 returns-clause-grant g t c =

@@ -34,7 +34,7 @@ returns-then-len-ne-FEWEST-clause-filling g c = λ l es p.
     let b : ℕ = (get_or c.deref.result.now (c.args.i + 1) c.index-deref-i.result).value in
     fill_apart _ _ _ _ l es p (c.args.i + 1) _ b (subst (At (view c.args.page.now) c.args.speed) (sym (add-one c.args.i)) c.requires.at)
     (entry_read c.args.page.now (c.args.i + 1) (c.args.i + 1) _ _ refl (omega (arith, c.requires.last)) c.deref.ensures.0)
-    c.read_page-child.result c.read_page-child.ensures.page (λ e. c.if-len-ne-FEWEST.true (c.len.ensures.value ∙ e)) c.open_page.new.self (c.open_page.ensures.state ∙ ap (step (opening b)) c.read_page-child.ensures.kept)
+    c.read_page-child.result c.read_page-child.ensures.page (λ e. c.if-len-ne-FEWEST.true (c.len.ensures.value ∙ e)) c.open_page.new.self (c.open_page.ensures.state ∙ ap (step (opening b)) c.read_page-child.ensures.kept) (c.args.i + 2) (omega arith)
 
 pub open-before-requires : goal.open-before-requires
 open-before-requires g c =
@@ -88,8 +88,8 @@ returns-then-len-eq-FEWEST-clause-filling g c = λ l es p.
 pub bounds-deref-len : goal.bounds-deref-len
 bounds-deref-len g c = omega (arith, ap length c.deref-3.ensures.0, c.len-len.ensures.value, long g (goal.at.bounds-deref-len g c).After-open-before)
 
-pub spliced-requires-2-clause-room : goal.spliced-requires-2-clause-room
-spliced-requires-2-clause-room g c = omega (arith, short g (goal.at.spliced-requires-2-clause-room g c).After-open-before)
+pub spliced-part-requires-clause-room : goal.spliced-part-requires-clause-room
+spliced-part-requires-clause-room g c = omega (arith, short g (goal.at.spliced-part-requires-clause-room g c).After-open-before)
 
 pub returns-clause-filling : goal.returns-clause-filling
 returns-clause-filling g c = λ l es p.
@@ -97,6 +97,6 @@ returns-clause-filling g c = λ l es p.
     let n = last g o es (len _ _ _ _ l es p) in
     fill_left_moved _ _ _ _ l es p c.args.i _ _ _ _ (omega (arith, n)) (e g o) (next g (goal.at.returns-clause-filling g c).After-read_page-child) c.open-before.result c.read_page-child.result (before_there g o) c.read_page-child.ensures.page
     c.open-before.new.self c.open_page-2.new.self (first g o) c.open_page-2.ensures.state c.requires.at n (short g o) (λ e. c.if-len-eq-FEWEST.false (c.len-len.ensures.value ∙ e))
-    c.spliced-2.result c.part.result c.spliced-2.ensures.level
-    (c.spliced-2.ensures.these ∙ at_start (entries c.read_page-child.result) _ _ (last_is c.open-before.result c.len-len.result _ _ (omega (arith, c.len-len.ensures.value, long g o)) c.len-len.ensures.value c.deref-3.ensures.0 c.index-deref-len.is))
-    c.part.ensures.level (c.part.ensures.these ∙ but_last c.open-before.result _ c.len-len.ensures.value)
+    c.spliced-part.result c.part-rest.result c.spliced-part.ensures.level
+    (c.spliced-part.ensures.these ∙ at_start (entries c.read_page-child.result) _ _ (last_is c.open-before.result c.len-len.result _ _ (omega (arith, c.len-len.ensures.value, long g o)) c.len-len.ensures.value c.deref-3.ensures.0 c.index-deref-len.is))
+    c.part-rest.ensures.level (c.part-rest.ensures.these ∙ but_last c.open-before.result _ c.len-len.ensures.value) _ c.first_speed.ensures

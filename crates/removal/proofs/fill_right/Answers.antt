@@ -1,4 +1,4 @@
-use Rattle.std.proofs.Common.{◌≡◌, ℕ, suc, ◌+◌, ◌<◌, ◌≤◌, List, map, length, get_or, Some, refl, ap, ◌∙◌, add-one, arith}
+use Rattle.std.proofs.Common.{◌≡◌, ℕ, suc, ◌+◌, ◌<◌, ◌≤◌, List, map, length, get_or, Some, refl, ap, ◌∙◌, add-one, arith, length-drop}
 use Rattle.page.specs.Block.{block_at}
 use Rattle.page.specs.View.{pair, view, entries}
 use Rattle.page.proofs.Pages.{entries_length}
@@ -13,7 +13,7 @@ open-child-requires g c = owned_at _ _ _ _ c.requires.able c.args.i _ _ (omega (
 
 pub returns-then-len-ne-FEWEST-clause-filling : goal.returns-then-len-ne-FEWEST-clause-filling
 returns-then-len-ne-FEWEST-clause-filling g c = λ l es p.
-    fill_apart _ _ _ _ l es p c.args.i _ _ c.requires.at (entry_read c.args.page.now c.args.i c.args.i _ _ refl (omega (arith, c.requires.more)) c.deref.ensures.0) c.open-child.result c.open-child.ensures.page (λ e. c.if-len-ne-FEWEST.true (c.len.ensures.value ∙ e)) c.open-child.new.self c.open-child.ensures.state
+    fill_apart _ _ _ _ l es p c.args.i _ _ c.requires.at (entry_read c.args.page.now c.args.i c.args.i _ _ refl (omega (arith, c.requires.more)) c.deref.ensures.0) c.open-child.result c.open-child.ensures.page (λ e. c.if-len-ne-FEWEST.true (c.len.ensures.value ∙ e)) c.open-child.new.self c.open-child.ensures.state (c.args.i + 1) (add-one c.args.i)
 
 pub open-after-requires : goal.open-after-requires
 open-after-requires g c =
@@ -50,16 +50,28 @@ returns-then-len-eq-FEWEST-clause-filling g c = λ l es p.
 pub bounds-deref-0 : goal.bounds-deref-0
 bounds-deref-0 g c = omega (arith, ap length c.deref-3.ensures.0, long g (goal.at.bounds-deref-0 g c).After-open-after)
 
-pub part-requires : goal.part-requires
-part-requires g c =
-    let d = (goal.at.part-requires g c).After-open-after in
+pub part-rest-requires : goal.part-rest-requires
+part-rest-requires g c =
+    let d = (goal.at.part-rest-requires g c).After-open-after in
     (omega (arith, c.len-3.ensures.value, long g d), omega (arith, c.len-3.ensures.value))
+
+pub first_speed-requires : goal.first_speed-requires
+first_speed-requires g c =
+    let after = c.open-after.result in
+    omega (
+      arith,
+      entries_length c.part-rest.result,
+      ap length (c.part-rest.ensures.these ∙ but_first after _ c.len-3.ensures.value),
+      length-drop 1 (entries after),
+      entries_length after,
+      long g (goal.at.first_speed-requires g c).After-open-after,
+    )
 
 pub returns-clause-filling : goal.returns-clause-filling
 returns-clause-filling g c = λ l es p.
     let d = (goal.at.returns-clause-filling g c).After-open-after in
     fill_right_moved _ _ _ _ l es p c.args.i _ _ _ _ (more g d es (len _ _ _ _ l es p)) (e g d) (e₂ g d) c.open-child.result c.open-after.result c.open-child.ensures.page (there g d)
     c.open-child.new.self c.open-after.new.self c.open-child.ensures.state c.open-after.ensures.state c.requires.at (short g d) (λ n. c.if-len-eq-FEWEST.false (c.len-2.ensures.value ∙ n))
-    c.spliced-2.result c.part.result c.spliced-2.ensures.level
-    (c.spliced-2.ensures.these ∙ at_end (entries c.open-child.result) _ _ (entries_length c.open-child.result ∙ short g d) (first_is c.open-after.result _ _ (omega (arith, long g d)) c.deref-3.ensures.0 c.index-deref-0.is))
-    c.part.ensures.level (c.part.ensures.these ∙ but_first c.open-after.result _ c.len-3.ensures.value)
+    c.spliced-part.result c.part-rest.result c.spliced-part.ensures.level
+    (c.spliced-part.ensures.these ∙ at_end (entries c.open-child.result) _ _ (entries_length c.open-child.result ∙ short g d) (first_is c.open-after.result _ _ (omega (arith, long g d)) c.deref-3.ensures.0 c.index-deref-0.is))
+    c.part-rest.ensures.level (c.part-rest.ensures.these ∙ but_first c.open-after.result _ c.len-3.ensures.value) _ c.first_speed.ensures
