@@ -21,6 +21,12 @@ module _ (cs : List ℕ) where
   spare_none zero b all = refl
   spare_none (suc k) b all = rw (lt-ltb 0 (get_or cs b 0) (all b (omega arith) (omega arith))) (spare_none k (suc b) (λ i l m. all i (omega arith) (omega arith)))
 
+  -- past the end there is none
+  pub found_past : (xs : List ℕ) (next : ℕ) → length cs < next → free_blocks cs ≡ xs ++ spare (length cs - next) next cs → free_blocks cs ≡ xs
+  found_past xs next past these =
+      let n : length cs - next ≡ 0 = omega arith in
+      these ∙ ap (λ k. xs ++ spare k next cs) n ∙ append-nil xs
+
   -- the counts from `next` on: what a search for a 0 there says of the free blocks, after those found before
   module _ (xs : List ℕ) (next : ℕ) (within : next ≤ length cs) (these : free_blocks cs ≡ xs ++ spare (length cs - next) next cs) where
     used : (j : ℕ) → AllWithin (λ c. 0 < c) (drop next cs) 0 j → (i : ℕ) → next ≤ i → i < next + j → 0 < get_or cs i 0

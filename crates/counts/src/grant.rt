@@ -24,13 +24,13 @@ impl Model for Grant {
 impl Grant {
     // The n lowest free blocks, if there are so many.
     pub fn lowest(counts: &Counts, n: usize) -> Option<Grant>
-        requires { (n ≤ 11) × ((2 ≤ vec_len counts.now.of) × (vec_len counts.now.of ≤ 4096)) }
+        requires { (n ≤ 11) × (vec_len counts.now.of ≤ 4096) }
         ensures { result ≡ lowest_free n counts.now.of.items }
     {
         let mut blocks = ArrayVec::new();
         let mut next = 2;
         for _ in 0..n {
-            let rest = &counts.of[next..];
+            let rest = counts.of.get(next..)?;
             let block = next + rest.iter().position(|count| *count == 0)?;
             blocks.push(block as u32);
             next = block + 1;

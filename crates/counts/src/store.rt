@@ -72,8 +72,7 @@ impl<D: Device> Store<D> {
 
     // The n lowest free blocks, if there are so many.
     pub fn grant(&self, n: usize) -> Option<Grant>
-        requires few { n ≤ 11 }
-        requires some { 2 ≤ blocks_of self.now.0 }
+        requires { n ≤ 11 }
         ensures these { result ≡ lowest_free n self.now.1 }
         ensures shape { Shaped self.now }
     {

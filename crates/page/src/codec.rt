@@ -21,14 +21,13 @@ fn header_word(level: u32, len: u32) -> u32
 }
 
 // The second word of an entry.
-fn value_word(level: u32, value: u32) -> u32
-    requires { value < 268435456 }
-    ensures { result ≡ word_of (value_kind level) value }
+fn value_word(level: u32, entry: &Entry) -> u32
+    ensures { result ≡ word_of (value_kind level) entry.now.value }
 {
     if level == 0 {
-        Kind::Angle.word(value)
+        Kind::Angle.word(entry.value)
     } else {
-        Kind::Child.word(value)
+        Kind::Child.word(entry.value)
     }
 }
 
@@ -50,7 +49,7 @@ impl Stored for Page {
         out[0] = header_word(self.level, entries.len() as u32);
         for (i, entry) in entries.iter().enumerate() {
             out[2 * i + 2] = Kind::Speed.word(entry.speed);
-            out[2 * i + 3] = value_word(self.level, entry.value);
+            out[2 * i + 3] = value_word(self.level, entry);
         }
     }
 

@@ -57,8 +57,7 @@ impl<D: Device> Model for Volume<D> {
 
 // So many free blocks for a change of a clone; refuses where fewer are free, and where fewer writes are left.
 fn reserve<D: Device>(store: &Store<D>, clone: u32, n: u32) -> Result<Grant, Refusal>
-    requires few { n ≤ 11 }
-    requires sized { sizes (blocks_of store.now.0) store.now.0.width ≡ true }
+    requires { n ≤ 11 }
     ensures { MatchResult result
         (λ grant. (lacking_in store.now clone n ≡ None) × Granted n store.now grant)
         (λ e. lacking_in store.now clone n ≡ Some e) }

@@ -25,8 +25,8 @@ returns-in_err-root g c =
     (subst (λ (a : ℤ). early (has c.args.self.now.0.working) (put c.args.n c.args.speed a) ≡ Some c.in_err-root.field-0.0) (to_z-of_z w32 c.args.angle c.ranges.angle) c.in_err-root.ensures) in
     search rules
 
-pub reserve-requires-clause-few : goal.reserve-requires-clause-few
-reserve-requires-clause-few g c =
+pub reserve-requires : goal.reserve-requires
+reserve-requires g c =
     let i = c.self.inside in
     let t : Tables = tables i.working i.committed i.generation in
     let r : Root = (c.in_ok-root.root.height, c.in_ok-root.root.block) in

@@ -44,8 +44,8 @@ returns-in_default g c =
     None refl (c.in_default.ensures.answer ∙ ap (look c.args.speed) (sym (clone_rows v c.args.n r at))) (t, c.get.new.store.0) (ap (λ (q : State). (t, q.0)) c.get.ensures.kept) in
     subst (λ (v : Tables × Meaning). Called (remove c.args.n c.args.speed) (look c.args.speed (rows_of_clone v c.args.n)) v (Ok None) (t, c.get.new.store.0)) c.self.view_is d
 
-pub reserve-requires-clause-few : goal.reserve-requires-clause-few
-reserve-requires-clause-few g c =
+pub reserve-requires : goal.reserve-requires
+reserve-requires g c =
     let i = c.self.inside in
     let t : Tables = tables i.working i.committed i.generation in
     let r : Root = (c.in_ok-root.root.height, c.in_ok-root.root.block) in
