@@ -6,12 +6,12 @@ use Rattle.page.specs.Block.{block_at}
 use Rattle.page.specs.Slot.{Root}
 use Rattle.counts.specs.Counts.{one, occ, Counted, free_blocks}
 use Rattle.counts.specs.Moves.{State, Shaped}
-use Rattle.model.specs.TreeBlocks.{Tree, Change, Change.begin, Change.puts, Change.takes, changed_on, new_blocks, Stored, Each, Good}
+use Rattle.model.specs.TreeBlocks.{Tree, Change, Change.begin, Change.puts, Change.takes, changed_on, new_blocks, Stored, Each, GoodOn}
 use Rattle.model.specs.World.{targets}
 
 -- the counts are right, and one of the references is to this root, whose tree is sound
 pub record Editable (q : State) (root : Root) : Type 0 where
-  pub good : Good (blocks_of q.0) (current_at q.0) root
+  pub good : GoodOn q.0 root
   pub others : ℕ → ℕ
   pub counted : Counted (block_at q.0) q.1 (λ b. one root.1 b + others b)
   pub modest : (b : ℕ) → others b ≤ 1000

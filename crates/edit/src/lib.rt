@@ -2,13 +2,12 @@
 #![tactic(auto)]
 
 ghost use Rattle.std.specs.Prelude.{◌≡◌, ℕ, ◌+◌, ◌*◌, ◌<◌, ◌≤◌, List, [], ◌∷◌, map, length, drop, ◌≢◌, slice_index};
-ghost use Rattle.device.specs.Meaning.{blocks_of, current_at};
 ghost use Rattle.tree.specs.Node.{map_e};
 ghost use Rattle.tree.specs.Tree.{Pay};
-ghost use Rattle.page.specs.View.{pair, view, entries};
+ghost use Rattle.page.specs.View.{pair, view, entries, root_pair};
 ghost use Rattle.counts.specs.Counts.{free_blocks};
 ghost use Rattle.counts.specs.Moves.{linking, run};
-ghost use Rattle.model.specs.TreeBlocks.{Change.begin, Change.puts, bare_tree, changed_on, tree_at, root_of, Good};
+ghost use Rattle.model.specs.TreeBlocks.{Change.begin, Change.puts, bare_tree, changed_on, tree_on, root_of, GoodOn};
 ghost use Rattle.edit.specs.Plan.{placed, links};
 ghost use Rattle.edit.specs.Kids.{with_rest, Beside};
 ghost use Rattle.edit.specs.Remove.{RemoveKeeps, Removes};
@@ -117,12 +116,12 @@ fn put_in<D: Device>(store: &mut Store<D>, grant: &mut Grant, page: &Page, row: 
 
 // Puts a row into a tree: the tree that results is held in its place. A full root is split, and gets a new root above.
 pub fn put_tree<D: Device>(store: &mut Store<D>, root: Root, row: Entry, mut grant: Grant) -> Root
-    requires editable { Editable store.old (root.height, root.block) }
+    requires editable { Editable store.old (root_pair root) }
     requires granted { Granted (2 * root.height + 1) store.old grant }
     requires row { (row.speed < 10000) × (row.value ≤ 18000) }
-    ensures root { (result.height, result.block) ≡ root_of (changed_on ℕ (puts row.speed row.value) (free_blocks store.old.1) (tree_at (current_at store.old.0) (root.height, root.block))) }
-    ensures edited { Edited (puts row.speed row.value) (tree_at (current_at store.old.0) (root.height, root.block)) store.old store.new }
-    ensures good { Good (blocks_of store.new.0) (current_at store.new.0) (result.height, result.block) }
+    ensures root { root_pair result ≡ root_of (changed_on ℕ (puts row.speed row.value) (free_blocks store.old.1) (tree_on store.old.0 (root_pair root))) }
+    ensures edited { Edited (puts row.speed row.value) (tree_on store.old.0 (root_pair root)) store.old store.new }
+    ensures good { GoodOn store.new.0 (root_pair result) }
 {
     let above = Page::new(
         root.height,
@@ -152,9 +151,9 @@ pub fn put_tree<D: Device>(store: &mut Store<D>, root: Root, row: Entry, mut gra
 // Makes a tree of one leaf with no row, and holds it.
 pub fn create_tree<D: Device>(store: &mut Store<D>, mut grant: Grant) -> Root
     requires granted { Granted 1 store.old grant }
-    ensures root { (result.height, result.block) ≡ root_of (changed_on ℕ begin (free_blocks store.old.1) bare_tree) }
+    ensures root { root_pair result ≡ root_of (changed_on ℕ begin (free_blocks store.old.1) bare_tree) }
     ensures edited { Edited begin bare_tree store.old store.new }
-    ensures good { Good (blocks_of store.new.0) (current_at store.new.0) (result.height, result.block) }
+    ensures good { GoodOn store.new.0 (root_pair result) }
 {
     let block = grant.take();
     grant.end();

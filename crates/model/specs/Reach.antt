@@ -4,7 +4,7 @@ use Rattle.device.specs.Meaning.{Meaning, blocks_of, current_at}
 use Rattle.page.specs.Block.{block_at}
 use Rattle.page.specs.Slot.{Table}
 use Rattle.counts.specs.Counts.{occ, Counted, Reached, free_blocks}
-use Rattle.model.specs.TreeBlocks.{elem, Good, AllGood}
+use Rattle.model.specs.TreeBlocks.{elem, GoodOn, AllGood}
 use Rattle.model.specs.Model.{used, free}
 use Rattle.model.specs.World.{Tables, shape}
 
@@ -19,7 +19,7 @@ rootings t b = occ b (roots_of t.working ++ roots_of t.committed)
 
 -- both tables stand on the device
 abbrev pub Standing : Tables → Meaning → Type 0
-Standing t m = AllGood (Good (blocks_of m) (current_at m)) t.working × AllGood (Good (blocks_of m) (current_at m)) t.committed
+Standing t m = AllGood (GoodOn m) t.working × AllGood (GoodOn m) t.committed
 
 -- the blocks in use are those that the places reach
 abbrev pub UseIsReach : Type 0

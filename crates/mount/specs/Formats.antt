@@ -4,7 +4,7 @@ use Rattle.device.specs.Meaning.{Meaning, blocks_of}
 use Rattle.device.specs.Cuts.{replay}
 use Rattle.model.specs.declared.refusal.Refusal.{Refusal}
 use Rattle.model.specs.declared.refusal.Refusal.TheVariants.{Shape, Worn, NoMemory}
-use Rattle.model.specs.World.{sizes, Formatted}
+use Rattle.model.specs.World.{sizes, Fits, Formatted}
 use Rattle.model.specs.Onward.{formatting}
 
 -- why a device cannot be formatted
@@ -13,7 +13,7 @@ hindrance m = cond (sizes (blocks_of m) m.width) (cond (nat_lt m.left 2) (Some (
 
 -- why a device is not formatted: what hinders it, or want of memory for the counts
 abbrev pub Hindered : Meaning → Refusal → Type 0
-Hindered m e = (hindrance m ≡ Some e) ⊎ ((e ≡ NoMemory) × (sizes (blocks_of m) m.width ≡ true))
+Hindered m e = (hindrance m ≡ Some e) ⊎ ((e ≡ NoMemory) × Fits m)
 
 -- the device was formatted
 pub record Made (m m' : Meaning) : Type 0 where

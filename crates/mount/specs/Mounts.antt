@@ -7,8 +7,8 @@ use Rattle.counts.specs.Counts.{Counted}
 use Rattle.counts.specs.Moves.{State}
 use Rattle.model.specs.declared.refusal.Refusal.{Refusal}
 use Rattle.model.specs.declared.refusal.Refusal.TheVariants.{Shape, NoMemory}
-use Rattle.model.specs.TreeBlocks.{Good, AllGood}
-use Rattle.model.specs.World.{sizes, found, slot_in, latest, fresh}
+use Rattle.model.specs.TreeBlocks.{GoodOn, AllGood}
+use Rattle.model.specs.World.{sizes, Fits, found, fresh}
 use Rattle.model.specs.Reach.{rootings, Standing}
 use Rattle.mount.specs.Due.{Usable}
 
@@ -28,7 +28,7 @@ pub record Kept (m : Meaning) (x : ℕ × Table) : Type 0 where
   pub apart : suc before.0 ≡ x.0
   pub this : Holds m x
   pub that : Holds m before
-  pub trees : AllGood (Good (blocks_of m) (current_at m)) x.1
+  pub trees : AllGood (GoodOn m) x.1
 
 -- mount accepts exactly the images that keep the layout
 abbrev pub MountExact : Type 0
@@ -36,18 +36,18 @@ MountExact = (m : Meaning) (x : ℕ × Table) → Lawful m → (found m ≡ Ok x
 
 -- a device that a volume fits on, with counts of no references
 pub record Blank (q : State) : Type 0 where
-  pub fit : sizes (blocks_of q.0) q.0.width ≡ true
+  pub fit : Fits q.0
   pub none : q.1 ≡ replicate (blocks_of q.0) 0
 
 -- no counts: the device does not fit, or there is no memory for them
 abbrev pub Countless : Meaning → Refusal → Type 0
-Countless m e = ((e ≡ Shape) × (sizes (blocks_of m) m.width ≡ false)) ⊎ ((e ≡ NoMemory) × (sizes (blocks_of m) m.width ≡ true))
+Countless m e = ((e ≡ Shape) × (sizes (blocks_of m) m.width ≡ false)) ⊎ ((e ≡ NoMemory) × Fits m)
 
 -- the store of a volume that mount made, with this slot
 pub record Accepted (q : State) (x : ℕ × Table) : Type 0 where
   pub found : found q.0 ≡ Ok x
   pub kept : Kept q.0 x
-  pub sizes : sizes (blocks_of q.0) q.0.width ≡ true
+  pub sizes : Fits q.0
   pub standing : Standing (fresh x) q.0
   pub counted : Counted (block_at q.0) q.1 (rootings (fresh x))
   pub long : length q.1 ≡ blocks_of q.0
@@ -59,4 +59,4 @@ pub record Off (m : Meaning) (e : Refusal) : Type 0 where
 
 -- a refusal: of what is found, or for want of memory for the counts
 abbrev pub Refused : Meaning → Refusal → Type 0
-Refused m e = Off m e ⊎ ((e ≡ NoMemory) × (sizes (blocks_of m) m.width ≡ true))
+Refused m e = Off m e ⊎ ((e ≡ NoMemory) × Fits m)

@@ -2,7 +2,7 @@
 ghost use Rattle.std.specs.Prelude.{◌≡◌, ℕ, ◌≤◌, true, [], map, OnOk};
 ghost use Rattle.device.specs.Meaning.{blocks_of};
 ghost use Rattle.page.specs.Slot.{every, rooted};
-ghost use Rattle.page.specs.View.{root_of};
+ghost use Rattle.page.specs.View.{root_of, root_pair};
 ghost use Rattle.model.specs.Walk.{least};
 ghost use Rattle.model.specs.Reach.{roots_of};
 ghost use Rattle.mount.specs.Counting.{root_due, place_walk, table_walk, count_at, Counting, Ready};
@@ -23,7 +23,7 @@ fn root_least(level: u32) -> usize
 // What is due at the root of a clone's tree.
 fn root_due(root: Root, clone: u32) -> Due
     requires { 1 ≤ root.height }
-    ensures { result ≡ root_due clone (root.height, root.block) }
+    ensures { result ≡ root_due clone (root_pair root) }
 {
     let level = root.height - 1;
     Due {

@@ -20,10 +20,14 @@ entries p = map pair p.entries.items
 abbrev pub view : Page → Block
 view p = record { level = p.level; entries = entries p }
 
+-- a root as a pair of height and block
+abbrev pub root_pair : Root → slots.Root
+root_pair r = (r.height, r.block)
+
 -- the clone that a place of a slot stands for
 abbrev pub root_of : Option Root → Option slots.Root
 root_of None = None
-root_of (Some r) = Some (r.height, r.block)
+root_of (Some r) = Some (root_pair r)
 
 -- the generation and table that a slot stands for
 abbrev pub slot_of : Slot → ℕ × Table

@@ -2,13 +2,12 @@
 #![tactic(auto)]
 
 ghost use Rattle.std.specs.Prelude.{◌≡◌, ℕ, suc, ◌+◌, ◌*◌, ◌<◌, ◌≤◌, List, ◌++◌, length, take, drop, slice_index};
-ghost use Rattle.device.specs.Meaning.{blocks_of, current_at};
 ghost use Rattle.tree.specs.Node.{map_e};
 ghost use Rattle.tree.specs.Tree.{Pay, Tree};
-ghost use Rattle.page.specs.View.{view, entries};
+ghost use Rattle.page.specs.View.{view, entries, root_pair};
 ghost use Rattle.counts.specs.Counts.{free_blocks};
 ghost use Rattle.counts.specs.Moves.{run, Shaped};
-ghost use Rattle.model.specs.TreeBlocks.{Change.takes, changed_on, tree_at, root_of, Good};
+ghost use Rattle.model.specs.TreeBlocks.{Change.takes, changed_on, tree_on, root_of, GoodOn};
 ghost use Rattle.edit.specs.Plan.{placed, links};
 ghost use Rattle.edit.specs.Kids.{Beside};
 ghost use Rattle.edit.specs.Able.{Open};
@@ -166,12 +165,12 @@ pub fn remove_tree<D: Device>(
     speed: u32,
     mut grant: Grant,
 ) -> Root
-    requires editable { Editable store.old (root.height, root.block) }
+    requires editable { Editable store.old (root_pair root) }
     requires granted { Granted (2 * root.height + 1) store.old grant }
     requires speed { speed < 10000 }
-    ensures root { (result.height, result.block) ≡ root_of (changed_on ℕ (takes speed) (free_blocks store.old.1) (tree_at (current_at store.old.0) (root.height, root.block))) }
-    ensures edited { Edited (takes speed) (tree_at (current_at store.old.0) (root.height, root.block)) store.old store.new }
-    ensures good { Good (blocks_of store.new.0) (current_at store.new.0) (result.height, result.block) }
+    ensures root { root_pair result ≡ root_of (changed_on ℕ (takes speed) (free_blocks store.old.1) (tree_on store.old.0 (root_pair root))) }
+    ensures edited { Edited (takes speed) (tree_on store.old.0 (root_pair root)) store.old store.new }
+    ensures good { GoodOn store.new.0 (root_pair result) }
 {
     let page = store.open(root.block);
     let made = remove_in(store, &mut grant, &page, speed);

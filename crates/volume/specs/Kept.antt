@@ -4,7 +4,7 @@ use Rattle.device.specs.Meaning.{Meaning, blocks_of, current_at}
 use Rattle.device.specs.Cuts.{Op, replay}
 use Rattle.page.specs.Block.{block_at}
 use Rattle.page.specs.declared.roots.Root.{Root}
-use Rattle.page.specs.View.{root_of}
+use Rattle.page.specs.View.{root_of, root_pair}
 use Rattle.counts.specs.Counts.{Counted, free_blocks}
 use Rattle.counts.specs.Moves.{State}
 use Rattle.model.specs.declared.refusal.Refusal.{Refusal}
@@ -37,7 +37,7 @@ pub record Called {X : Type 0} (q : Ask) (x : X) (v : Tables × Meaning) (r : Re
 
 -- clone n is there, and r is the root of its tree
 abbrev pub Stands : Tables × Meaning → ℕ → Root → Type 0
-Stands v n r = (n < 24) × (place v.0.working n ≡ Some (r.height, r.block))
+Stands v n r = (n < 24) × (place v.0.working n ≡ Some (root_pair r))
 
 -- the rows of clone n
 abbrev pub rows_of_clone : Tables × Meaning → ℕ → Map
