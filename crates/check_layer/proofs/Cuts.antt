@@ -1,21 +1,10 @@
 -- A cut below the check layer is a cut of it.
-use Rattle.std.proofs.Common.{ℕ, ◌-◌, ◌<◌, ◌≤◌, map, get_or, sym, ap, ◌∙◌, subst, inl, inr, ⊎_elim, arith}
+use Rattle.std.proofs.Common.{ℕ, ◌-◌, ◌<◌, ◌≤◌, map, get_or, sym, ap, ◌∙◌, subst, arith}
 use Rattle.std.proofs.lemmas.List.{length-map, get_or-map}
-use Rattle.device.specs.Meaning.{Meaning, Cell, Content, Cut, CutCell, CutTo, flushed, no_cell, blocks_of}
-use Rattle.device.specs.Cuts.{cell_at}
+use Rattle.device.specs.Meaning.{Meaning, Cut, CutCell, flushed, no_cell, blocks_of, cell_at}
 use Rattle.device.proofs.Cuts.{cut_flushed}
+use Rattle.device.proofs.Mapped.{mapped_cut}
 use Rattle.check_layer.specs.Checked.{checked, checked_cell, checked_content, held_checked}
-
-to : (w : ℕ) → 1 ≤ w → (c : Cell) (x : Content) → CutTo w c x → CutTo (w - 1) (checked_cell (w - 1) c) (checked_content (w - 1) x)
-to w big c x =
-    ⊎_elim
-    (λ h. inl (h.0, ap (checked_content (w - 1)) h.1))
-    (⊎_elim
-    (λ h. inr (inl (h.0, ⊎_elim (λ e. inl (ap (checked_content (w - 1)) e)) (λ e. inr (ap (checked_content (w - 1)) e)) h.1)))
-    (λ h. inr (inr (h.0, held_checked w x big h.1))))
-
-cut_cell_lem : (w : ℕ) → 1 ≤ w → (c d : Cell) → CutCell w c d → CutCell (w - 1) (checked_cell (w - 1) c) (checked_cell (w - 1) d)
-cut_cell_lem w big c d k = record { mark = k.mark; equal = ap (checked_content (w - 1)) k.equal; from = to w big c d.current k.from }
 
 checked_cut : (m n : Meaning) → 1 ≤ n.width → Cut m n → Cut (checked m) (checked n)
 checked_cut m n big k = record {
@@ -29,7 +18,7 @@ checked_cut m n big k = record {
       subst (λ x. CutCell (m.width - 1) x (get_or (map (checked_cell (n.width - 1)) n.cells) b no_cell)) (sym (get_or-map (checked_cell (m.width - 1)) m.cells b no_cell no_cell h₁))
       (subst (CutCell (m.width - 1) (checked_cell (m.width - 1) c)) (sym (get_or-map (checked_cell (n.width - 1)) n.cells b no_cell no_cell h₂))
       (subst (λ w. CutCell (m.width - 1) (checked_cell (m.width - 1) c) (checked_cell (w - 1) d)) (sym k.width)
-      (cut_cell_lem m.width (omega (arith, k.width)) c d (k.cells b h₁))));
+      (mapped_cut (checked_content (m.width - 1)) m.width (m.width - 1) (held_checked m.width (omega (arith, k.width))) c d (k.cells b h₁))));
   left = k.left;
 }
 

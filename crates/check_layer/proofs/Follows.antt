@@ -3,17 +3,13 @@ use Rattle.std.proofs.Common.{◌≡◌, ℕ, ◌-◌, ◌<◌, List, [], ◌∷
 use Rattle.std.proofs.lemmas.List.{map-set, get_or-map, take_at, get_or_at}
 use Rattle.std.proofs.lemmas.Bool.{eq-eqb}
 use Rattle.device.specs.declared.DeviceFault.{DeviceFault}
-use Rattle.device.specs.Meaning.{Meaning, Cell, words, raised, flushed, flushed_cell, written, written_cell, no_cell, spent, blocks_of, passed, after_write}
-use Rattle.device.specs.Cuts.{cell_at}
+use Rattle.device.specs.Meaning.{Meaning, Cell, words, raised, flushed, written, written_cell, no_cell, spent, blocks_of, passed, after_write, cell_at}
+use Rattle.device.proofs.Mapped.{mapped_flush}
 use Rattle.check_layer.specs.Checked.{checked, checked_cell, checked_content, check_of, with_check}
 
 -- after a flush below
-map_flush : (w : ℕ) (cs : List Cell) → map (checked_cell w) (map flushed_cell cs) ≡ map flushed_cell (map (checked_cell w) cs)
-map_flush w [] = refl
-map_flush w (c ∷ cs) = ap (λ t. checked_cell w (flushed_cell c) ∷ t) (map_flush w cs)
-
 pub checked_flushed : (m : Meaning) → checked (flushed m) ≡ flushed (checked m)
-checked_flushed m = ap with_cells (map_flush (m.width - 1) m.cells)
+checked_flushed m = ap with_cells (mapped_flush (checked_content (m.width - 1)) m.cells)
   where
     with_cells : List Cell → Meaning
     with_cells cs = record { width = m.width - 1; cells = cs; left = m.left; left_mark = raised m.left_mark }

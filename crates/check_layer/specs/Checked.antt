@@ -1,10 +1,12 @@
 -- The check layer, as a function of the meaning below it.
-use Rattle.std.specs.Prelude.{◌≡◌, ℕ, ◌-◌, ◌*◌, ◌/◌, ◌%◌, ◌^◌, ◌≤◌, Bool, true, false, cond, List, [], ◌∷◌, ◌++◌, map, take, ◌==◌, bit_or, bit_xor, slice_index, refl, fold}
-use Rattle.std.proofs.Common.{ap, arith}
+use Rattle.std.specs.Prelude.{◌≡◌, ℕ, ◌-◌, ◌*◌, ◌/◌, ◌%◌, ◌^◌, ◌≤◌, Bool, true, false, cond, List, [], ◌∷◌, ◌++◌, map, take, ◌==◌, bit_or, bit_xor, slice_index, fold}
+use Rattle.std.proofs.Common.{arith}
 use Rattle.std.proofs.lemmas.List.{length-map, length-take-le}
 use Rattle.std.proofs.ByRecursion.{All-map, All-weaker, All-take}
 use Rattle.device.specs.declared.Layer.TheVariants.{Check}
 use Rattle.device.specs.Meaning.{Meaning, Cell, Content, words, damaged, own, raised, LawfulCell, Lawful, Held}
+use Rattle.device.specs.Mapped.{mapped_cell}
+use Rattle.device.proofs.Mapped.{mapped_lawful}
 
 -- 32 bits, rotated left by 5
 abbrev rotated : ℕ → ℕ
@@ -13,12 +15,6 @@ rotated s = bit_or ((s * 2 ^ 5) % 2 ^ 32) (s / 2 ^ 27)
 -- The check of some words: it starts at 1; for each word it is rotated left by 5, and the word is XORed in.
 abbrev pub check_of : List ℕ → ℕ
 check_of ws = fold (λ s x. bit_xor (rotated s) x) 1 ws
-
-of_0 : check_of (0 ∷ []) ≡ 32
-of_0 = refl
-
-of_1_2 : check_of (1 ∷ 2 ∷ []) ≡ 1058
-of_1_2 = refl
 
 -- what a block below holds for some words
 abbrev pub with_check : List ℕ → List ℕ
@@ -34,7 +30,7 @@ checked_content w (words ws) = cond (slice_index ws w == check_of (take w ws)) (
 checked_content w (damaged k) = damaged (raised k)
 
 abbrev pub checked_cell : ℕ → Cell → Cell
-checked_cell w c = record { persisted = checked_content w c.persisted; current = checked_content w c.current; mark = c.mark }
+checked_cell w c = mapped_cell (checked_content w) c
 
 -- what the layer means
 abbrev pub checked : Meaning → Meaning
@@ -45,20 +41,12 @@ held_if : (b : Bool) (w : ℕ) (x y : Content) → Held w x → Held w y → Hel
 held_if true w x y h k = h
 held_if false w x y h k = k
 
-pub held_checked : (w : ℕ) (x : Content) → 1 ≤ w → Held w x → Held (w - 1) (checked_content (w - 1) x)
-held_checked w (words ws) big h =
+pub held_checked : (w : ℕ) → 1 ≤ w → (x : Content) → Held w x → Held (w - 1) (checked_content (w - 1) x)
+held_checked w big (words ws) h =
     held_if (slice_index ws (w - 1) == check_of (take (w - 1) ws)) (w - 1) (words (take (w - 1) ws)) (damaged (own Check))
     (length-take-le (w - 1) ws (omega (arith, h.0)), All-take _ (w - 1) ws h.1)
     (omega arith)
-held_checked w (damaged k) big h = omega arith
-
-lawful : (w : ℕ) → 1 ≤ w → (c : Cell) → LawfulCell w c → LawfulCell (w - 1) (checked_cell (w - 1) c)
-lawful w big c l = record {
-  persisted = held_checked w c.persisted big l.persisted;
-  current = held_checked w c.current big l.current;
-  mark = l.mark;
-  clean = λ e. ap (checked_content (w - 1)) (l.clean e);
-}
+held_checked w big (damaged k) h = omega arith
 
 pub fits : (m : Meaning) → Lawful m → Allowed m → Lawful (checked m)
 fits m l big = record {
@@ -66,6 +54,7 @@ fits m l big = record {
   few = simp length-map l.few;
   broad = omega arith;
   narrow = omega (arith, l.narrow);
-  cells = All-map (LawfulCell (m.width - 1)) (checked_cell (m.width - 1)) m.cells (All-weaker _ _ (lawful m.width (omega arith)) m.cells l.cells);
+  cells = All-map (LawfulCell (m.width - 1)) (checked_cell (m.width - 1)) m.cells
+      (All-weaker _ _ (mapped_lawful (checked_content (m.width - 1)) m.width (m.width - 1) (held_checked m.width (omega arith))) m.cells l.cells);
   left = l.left;
 }

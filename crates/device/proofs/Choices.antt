@@ -2,8 +2,8 @@
 use Rattle.std.proofs.Common.{◌≡◌, ℕ, zero, suc, ◌+◌, ◌<◌, ◌≤◌, List, [], ◌∷◌, map, length, get_or, sym, refl, ap, ◌∙◌, subst, ap₂, inl, inr, ⊎_elim, arith}
 use Rattle.std.specs.List.{AllByRecursion}
 use Rattle.std.proofs.lemmas.List.{length-map, get_or-set_same, get_or-set_other, length-set}
-use Rattle.device.specs.Meaning.{Content, Cell, Meaning, blocks_of, no_cell, written, written_cell, flushed, flushed_cell, Lawful, LawfulCell, Cut, CutCell, CutTo}
-use Rattle.device.specs.Cuts.{Op, Op.write, Op.flush, apply, replay, Choice, Choice.old, Choice.new, Choice.other, Cutting, remains, cut_cell, cut_cells, cut, cell_at, Fits, CutsAgree}
+use Rattle.device.specs.Meaning.{Content, Cell, Meaning, blocks_of, no_cell, written, written_cell, flushed, flushed_cell, Lawful, LawfulCell, Cut, CutCell, CutTo, cell_at}
+use Rattle.device.specs.Cuts.{Op, Op.write, Op.flush, apply, replay, Choice, Choice.old, Choice.new, Choice.other, Cutting, remains, cut_cell, cut_cells, cut, Fits, CutsAgree}
 
 cells_length : (k : ℕ → Choice) (i : ℕ) (cs : List Cell) → length (cut_cells k i cs) ≡ length cs
 cells_length k i [] = refl

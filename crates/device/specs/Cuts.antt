@@ -1,7 +1,7 @@
 -- A cut of the power as a function of what it chooses; the device calls of a call, replayed.
-use Rattle.std.specs.Prelude.{◌≡◌, ℕ, zero, suc, ◌<◌, ◌≤◌, List, [], ◌∷◌, slice_index_or}
+use Rattle.std.specs.Prelude.{◌≡◌, ℕ, zero, suc, ◌<◌, ◌≤◌, List, [], ◌∷◌}
 use Rattle.device.specs.declared.LayerMark.{LayerMark}
-use Rattle.device.specs.Meaning.{Content, Cell, Meaning, blocks_of, no_cell, written, flushed, Held, Lawful, Cut}
+use Rattle.device.specs.Meaning.{Content, Cell, Meaning, blocks_of, written, flushed, Held, Lawful, Cut}
 
 -- the device calls that change the meaning
 pub data Op : Type 0 where
@@ -46,9 +46,6 @@ cut_cells k i (c ∷ cs) = cut_cell (k i) c ∷ cut_cells k (suc i) cs
 
 abbrev pub cut : Cutting → Meaning → Meaning
 cut κ m = record { width = m.width; cells = cut_cells κ.choice 0 m.cells; left = κ.left; left_mark = κ.left_mark }
-
-abbrev pub cell_at : Meaning → ℕ → Cell
-cell_at m b = slice_index_or m.cells b no_cell
 
 -- a choice of contents that a device of this width can hold
 abbrev pub Fits : ℕ → Choice → Type 0

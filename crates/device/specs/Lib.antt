@@ -1,3 +1,4 @@
 pub mod Meaning
 pub mod Cuts
+pub mod Mapped
 pub mod Numbers

@@ -31,8 +31,12 @@ blocks_of m = length m.cells
 abbrev pub no_cell : Cell
 no_cell = record { persisted = words []; current = words []; mark = 0 }
 
+-- block b, and its current content
+abbrev pub cell_at : Meaning → ℕ → Cell
+cell_at m b = slice_index_or m.cells b no_cell
+
 abbrev pub current_at : Meaning → ℕ → Content
-current_at m b = (slice_index_or m.cells b no_cell).current
+current_at m b = (cell_at m b).current
 
 -- The mark of a fault: where it is found, and one layer further up.
 abbrev pub own : Layer → LayerMark
@@ -47,17 +51,21 @@ raised_fault (Range k) = Range (raised k)
 raised_fault (Worn k) = Worn (raised k)
 raised_fault (Damaged k) = Damaged (raised k)
 
--- What is looked at first in reading and writing n words of block b: the length, and then the block.
-abbrev pub admitted : Layer → Meaning → ℕ → ℕ → Result Unit DeviceFault
-admitted l m b n = cond (n == m.width) (cond (nat_lt b (blocks_of m)) (Ok tt) (Err (Range (own l)))) (Err (Length (own l)))
+-- What is looked at first in reading and writing n words of block b: the length, and then the block. Where both are right, x.
+abbrev pub gate : {X : Type 0} → Layer → Meaning → ℕ → ℕ → Result X DeviceFault → Result X DeviceFault
+gate l m b n x = cond (n == m.width) (cond (nat_lt b (blocks_of m)) x (Err (Range (own l)))) (Err (Length (own l)))
 
--- Reading n words of block b: the words, or the refusal. The length is looked at first, then the block, then the content.
+abbrev pub admitted : Layer → Meaning → ℕ → ℕ → Result Unit DeviceFault
+admitted l m b n = gate l m b n (Ok tt)
+
+-- what a content gives to a reader
 abbrev pub held : Content → Result (List ℕ) DeviceFault
 held (words ws) = Ok ws
 held (damaged k) = Err (Damaged k)
 
+-- Reading n words of block b: the words, or the refusal. The content is looked at last.
 abbrev pub reading : Layer → Meaning → ℕ → ℕ → Result (List ℕ) DeviceFault
-reading l m b n = cond (n == m.width) (cond (nat_lt b (blocks_of m)) (held (current_at m b)) (Err (Range (own l)))) (Err (Length (own l)))
+reading l m b n = gate l m b n (held (current_at m b))
 
 abbrev pub answered : Result (List ℕ) DeviceFault → Result Unit DeviceFault
 answered (Ok ws) = Ok tt
@@ -67,12 +75,13 @@ abbrev pub filled : Result (List ℕ) DeviceFault → List ℕ → List ℕ
 filled (Ok ws) buf = ws
 filled (Err e) buf = buf
 
--- Writing n words to block b: the length is looked at first, then the block, then the writes that are left.
+-- is a write left?
 abbrev pub spending : Meaning → Result Unit DeviceFault
 spending m = cond (nat_lt 0 m.left) (Ok tt) (Err (Worn m.left_mark))
 
+-- Writing n words to block b: the writes that are left are looked at last.
 abbrev pub writing : Layer → Meaning → ℕ → ℕ → Result Unit DeviceFault
-writing l m b n = cond (n == m.width) (cond (nat_lt b (blocks_of m)) (spending m) (Err (Range (own l)))) (Err (Length (own l)))
+writing l m b n = gate l m b n (spending m)
 
 -- an answer from below, one layer up
 abbrev pub passed : Result Unit DeviceFault → Result Unit DeviceFault
@@ -85,13 +94,13 @@ endless = 4294967295
 
 -- the writes that are left after one
 abbrev pub spent : ℕ → ℕ
-spent n = cond (n == 4294967295) n (n - 1)
+spent n = cond (n == endless) n (n - 1)
 
 abbrev pub written_cell : List ℕ → Cell → Cell
 written_cell ws c = record { persisted = c.persisted; current = words ws; mark = min (c.mark + 1) 2 }
 
 abbrev pub written : Meaning → ℕ → List ℕ → Meaning
-written m b ws = record { width = m.width; cells = slice_set m.cells b (written_cell ws (slice_index_or m.cells b no_cell)); left = spent m.left; left_mark = m.left_mark }
+written m b ws = record { width = m.width; cells = slice_set m.cells b (written_cell ws (cell_at m b)); left = spent m.left; left_mark = m.left_mark }
 
 abbrev pub after_write : Result Unit DeviceFault → Meaning → ℕ → List ℕ → Meaning
 after_write (Ok u) m b ws = written m b ws
@@ -104,7 +113,13 @@ flushed_cell c = record { persisted = c.current; current = c.current; mark = 0 }
 abbrev pub flushed : Meaning → Meaning
 flushed m = record { width = m.width; cells = map flushed_cell m.cells; left = m.left; left_mark = m.left_mark }
 
--- What every device's meaning keeps.
+-- What every device's meaning keeps: the numbers of blocks and of words in one, and what its contents are.
+pub record Limits (n w : ℕ) : Type 0 where
+  pub some : 1 ≤ n
+  pub few : n ≤ 4096
+  pub broad : 1 ≤ w
+  pub narrow : w ≤ 64
+
 abbrev pub Words : ℕ → List ℕ → Type 0
 Words w ws = (length ws ≡ w) × AllByRecursion (λ x. x < 2 ^ 32) ws
 
@@ -139,5 +154,5 @@ pub record CutCell (w : ℕ) (c d : Cell) : Type 0 where
 pub record Cut (m n : Meaning) : Type 0 where
   pub width : n.width ≡ m.width
   pub blocks : blocks_of n ≡ blocks_of m
-  pub cells : (b : ℕ) → b < blocks_of m → CutCell m.width (slice_index_or m.cells b no_cell) (slice_index_or n.cells b no_cell)
+  pub cells : (b : ℕ) → b < blocks_of m → CutCell m.width (cell_at m b) (cell_at n b)
   pub left : n.left ≤ 4294967295

@@ -1,10 +1,10 @@
 // Block devices, known by their meaning alone. The rules are stated in docs/devices.md.
 #![tactic(auto)]
 
-ghost use Rattle.std.specs.Prelude.{◌≡◌, ℕ, length};
+ghost use Rattle.std.specs.Prelude.{◌≡◌, ℕ, length, MatchBool};
 ghost use Rattle.device.specs.declared.Layer.{Layer};
 ghost use Rattle.device.specs.Numbers.{layer_code, fault_number, fault_mark, shape_number};
-ghost use Rattle.device.specs.Meaning.{Meaning, Lawful, own, admitted, blocks_of, reading, writing, answered, filled, after_write, flushed, raised, raised_fault, passed};
+ghost use Rattle.device.specs.Meaning.{Meaning, Limits, Lawful, own, admitted, blocks_of, reading, writing, answered, filled, after_write, flushed, raised, raised_fault, passed};
 ghost use Rattle.device.specs.Cuts.{CutsAgree};
 
 use std::fmt;
@@ -190,6 +190,13 @@ impl<T> Unshaped<T> {
     {
         2
     }
+}
+
+// May a device have so many blocks, 1 to 4,096, of so many words each, 1 to 64?
+pub fn is_shape(blocks: usize, width: usize) -> bool
+    ensures { MatchBool result (Limits blocks width) (Limits blocks width → ⊥) }
+{
+    (1..=4096).contains(&blocks) && (1..=64).contains(&width)
 }
 
 // An answer from below, as one layer further up passes it on.

@@ -2,8 +2,7 @@
 use Rattle.std.proofs.Common.{◌≡◌, ℕ, zero, suc, ◌+◌, ◌*◌, ◌<◌, ◌≤◌, Bool, true, false, cond, eqb, ltb, List, [], ◌∷◌, ◌++◌, length, get_or, take, drop, is_some, Some, Option, sym, refl, ap, ◌∙◌, subst, ⊎_elim, arith, length-set, take-append-drop}
 use Rattle.std.proofs.lemmas.List.{get_or-set_same, get_or-set_other}
 use Rattle.std.proofs.lemmas.Bool.{eq-eqb, ne_eqb, lt-ltb, le-ltb, cases_eq, cases_lt}
-use Rattle.device.specs.Meaning.{Meaning, Cell, blocks_of, no_cell, written_cell}
-use Rattle.device.specs.Cuts.{cell_at}
+use Rattle.device.specs.Meaning.{Meaning, Cell, blocks_of, no_cell, written_cell, cell_at}
 use Rattle.tree.specs.Node.{ins, first, at, ahead, Every, map_e}
 use Rattle.tree.specs.Tree.{Pay, Tree}
 use Rattle.tree.proofs.Kept.{every_append, every_take, every_drop}

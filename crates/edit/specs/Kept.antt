@@ -1,7 +1,6 @@
 -- What put leaves as it was, and what stands afterwards.
 use Rattle.std.specs.Prelude.{◌≡◌, ℕ, ◌+◌, ◌*◌, ◌<◌, List, length, ◌≢◌, slice_index}
-use Rattle.device.specs.Meaning.{blocks_of}
-use Rattle.device.specs.Cuts.{cell_at}
+use Rattle.device.specs.Meaning.{blocks_of, cell_at}
 use Rattle.tree.specs.Node.{Every}
 use Rattle.tree.specs.Tree.{Pay}
 use Rattle.page.specs.Block.{block_at}

@@ -4,7 +4,7 @@ use Rattle.std.proofs.lemmas.Nat.{mul-le, div-mul-add}
 use Rattle.std.proofs.lemmas.Bool.{cases_lt}
 use Rattle.std.proofs.lemmas.List.{length-take-le, length-drop, length-append, drop-drop, drop-append-le, drop_all, take-append-drop, get_or-take, get_or-drop, get_or_append_left}
 use Rattle.log_device.specs.Log.{place_of}
-use Rattle.log_device.specs.Fit.{rows}
+use Rattle.device.proofs.Tables.{rows}
 
 -- what is left after i of k records
 abbrev pub left_of : List ℕ → ℕ → ℕ → ℕ → List ℕ

@@ -3,10 +3,10 @@ use Rattle.std.proofs.Common.{◌≡◌, ℕ, zero, suc, ◌+◌, ◌*◌, ◌<�
 use Rattle.std.proofs.lemmas.List.{get_or-take, get_or-drop, take-take, drop-take, drop-drop, take_all, drop_all}
 use Rattle.std.proofs.lemmas.List.FromFn.{length-map-range_with_len, take-map-range_with_len}
 use Rattle.device.specs.Meaning.{Cell, Content, words, LawfulCell, Cut, CutCell, CutTo, no_cell, Held}
-use Rattle.device.proofs.Tables.{get_or_table, same_table}
+use Rattle.device.proofs.Tables.{get_or_table, same_table, rows}
 use Rattle.word.specs.Words.{kind_of, payload_of}
 use Rattle.log_device.specs.Log.{last_of, count_of, log_cell, record_at, records, flushed_in, capacity, log_of, opened_log, Sound, Formed, Shaped, Leaves, Outlasts, place_of, IsRecord}
-use Rattle.log_device.specs.Fit.{rows, cell_fit}
+use Rattle.log_device.specs.Fit.{cell_fit}
 use Rattle.log_device.proofs.Facts.{kind_word, payload_word, same_record, fits_in}
 
 -- a cut may leave either content of a block

@@ -11,10 +11,10 @@ use Rattle.std.proofs.lemmas.Bool.{cases_eq, eq-eqb, ne_eqb}
 use Rattle.device.specs.Meaning.{Meaning, Cell, words, held, reading, admitted, written, written_cell, flushed, flushed_cell, no_cell, own, spent}
 use Rattle.device.specs.declared.Layer.TheVariants.{Log}
 use Rattle.device.proofs.Calls.{let_in, reading_at}
-use Rattle.device.proofs.Tables.{get_or_table, set_table, same_table, map_map}
+use Rattle.device.proofs.Tables.{get_or_table, set_table, same_table, map_map, rows}
 use Rattle.word.specs.Words.{kind_of, payload_of, word_of}
 use Rattle.log_device.specs.Log.{Record, last_of, count_of, log_cell, logged, record_at, records, flushed_in, capacity, log_of, Sound, place_of, IsRecord}
-use Rattle.log_device.specs.Fit.{rows, last_append}
+use Rattle.log_device.specs.Fit.{last_append}
 
 abbrev make : ℕ → List Cell → ℕ → Meaning
 make w cs l = record { width = w; cells = cs; left = l; left_mark = own Log }

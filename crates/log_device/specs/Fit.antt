@@ -1,18 +1,13 @@
 -- What the log keeps makes its meaning lawful.
-use Rattle.std.specs.Prelude.{◌≡◌, ℕ, zero, suc, ◌+◌, ◌*◌, ◌^◌, ◌<◌, ◌≤◌, Bool, true, false, cond, List, [], ◌∷◌, ◌++◌, length, take, drop, replicate, ◌==◌, refl}
-use Rattle.std.proofs.Common.{sym, ap, ◌∙◌, arith, add-mul}
+use Rattle.std.specs.Prelude.{◌≡◌, ℕ, zero, suc, ◌+◌, ◌^◌, ◌<◌, Bool, true, false, cond, List, [], ◌∷◌, ◌++◌, length, take, drop, replicate, ◌==◌, refl}
+use Rattle.std.proofs.Common.{sym, ap, ◌∙◌, arith}
 use Rattle.std.specs.List.{AllByRecursion}
-use Rattle.std.proofs.lemmas.Nat.{mul-le}
 use Rattle.std.proofs.lemmas.List.{length-take-le, length-drop, take-append-drop, length-replicate}
 use Rattle.std.proofs.ByRecursion.{All-take, All-drop}
 use Rattle.std.proofs.lemmas.List.FromFn.{length-map-range_with_len}
 use Rattle.device.specs.Meaning.{LawfulCell, Lawful, Words, words}
-use Rattle.device.proofs.Tables.{all_table}
+use Rattle.device.proofs.Tables.{all_table, rows}
 use Rattle.log_device.specs.Log.{Record, last_of, count_of, log_cell, record_at, records, place_of, flushed_in, log_of, Sound}
-
--- the rows before row b end where it begins
-pub rows : (k b w : ℕ) → k < b → k * w + w ≤ b * w
-rows k b w h = omega (arith, mul-le (k + 1) w b w (omega arith) (omega arith), add-mul k 1 w)
 
 words_if : (t : Bool) (w : ℕ) (x y : List ℕ) → Words w x → Words w y → Words w (cond t x y)
 words_if true w x y h k = h

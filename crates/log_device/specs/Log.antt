@@ -1,7 +1,7 @@
 -- What the log device means, what it keeps, and what a cut of the power may leave of it.
 use Rattle.std.specs.Prelude.{◌≡◌, ℕ, ◌+◌, ◌-◌, ◌*◌, ◌/◌, ◌^◌, ◌<◌, ◌≤◌, min, cond, ◌⊎◌, List, [], ◌∷◌, map, length, take, drop, replicate, ◌==◌, slice_index, slice_index_or, Option, None, Some}
 use Rattle.std.specs.List.{range_with_len, AllByRecursion}
-use Rattle.device.specs.Meaning.{Meaning, Cell, words, own, Cut}
+use Rattle.device.specs.Meaning.{Meaning, Cell, Limits, words, own, Cut}
 use Rattle.device.specs.declared.Layer.TheVariants.{Log}
 use Rattle.word.specs.Words.{kind_of, payload_of, word_of}
 
@@ -61,13 +61,6 @@ IsRecord n x = (kind_of x ≡ 9) × (payload_of x < n)
 
 abbrev pub AreRecords : List ℕ → ℕ → ℕ → ℕ → Type 0
 AreRecords img n w k = (i : ℕ) → i < k → IsRecord n (slice_index img (place_of w i))
-
--- the number of blocks and their width
-pub record Limits (n w : ℕ) : Type 0 where
-  pub some : 1 ≤ n
-  pub few : n ≤ 4096
-  pub broad : 1 ≤ w
-  pub narrow : w ≤ 64
 
 -- the length of the image, the number of blocks and their width
 pub record Shaped (len n w : ℕ) : Type 0 where

@@ -5,13 +5,14 @@
 ghost use Rattle.std.specs.Prelude.{◌≡◌, ◌+◌, ◌-◌, ◌*◌, ◌^◌, ◌<◌, ◌≤◌, ◌∷◌, length, take, drop, replicate, MatchBool, MatchOption, MatchResult, slice_index, slice_set};
 ghost use Rattle.std.specs.List.{AllByRecursion};
 ghost use Rattle.device.specs.declared.Layer.{Layer};
+ghost use Rattle.device.specs.Meaning.{Limits};
 ghost use Rattle.std.proofs.Props.{props};
 ghost use Rattle.log_device.specs.Fit.{fit};
-ghost use Rattle.log_device.specs.Log.{log_of, opened_log, Limits, Sound, Indexed, records, last_of, capacity, IsRecord, AreRecords, Shaped, Formed, Outlasts, place_of, flushed_in};
+ghost use Rattle.log_device.specs.Log.{log_of, opened_log, Sound, Indexed, records, last_of, capacity, IsRecord, AreRecords, Shaped, Formed, Outlasts, place_of, flushed_in};
 ghost use Rattle.log_device.specs.declared.LogRefusal.{LogRefusal};
 ghost use Rattle.log_device.specs.Refusals.{Refused, refusal_number};
 
-use device::{Device, DeviceFault, Layer, LayerMark};
+use device::{Device, DeviceFault, Layer, LayerMark, is_shape};
 use std::alloc::{AllocError, Global};
 use word::{Kind, payload};
 
@@ -45,7 +46,7 @@ impl Layout {
     fn new(blocks: u32, width: usize) -> Option<Layout>
         ensures { MatchOption result (Limits blocks width → ⊥) (λ layout. (layout.blocks ≡ blocks) × (layout.width ≡ width)) }
     {
-        if !(1..=4096).contains(&blocks) || !(1..=64).contains(&width) {
+        if !is_shape(blocks as usize, width) {
             return None;
         }
         Some(Layout { blocks, width })

@@ -2,15 +2,16 @@
 #![tactic(auto)]
 
 ghost use Rattle.std.specs.Prelude.{◌≡◌, ◌≤◌, ◌+◌, ◌*◌, length, replicate, IfOk, MatchResult};
+ghost use Rattle.device.specs.Meaning.{Limits};
 ghost use Rattle.memory.specs.Memory.{memory, parts, parts_of, Shaped};
-ghost use Rattle.log_device.specs.Log.{Limits, opened_log};
+ghost use Rattle.log_device.specs.Log.{opened_log};
 ghost use Rattle.medium.specs.Held.{held, opened};
 ghost use Rattle.medium.specs.Built.{Buildable, built};
 ghost use Rattle.medium.specs.Logs.{Readable, log_fault};
 ghost use Rattle.medium.specs.declared.Fault.{Fault};
 
 use check_layer::Check;
-use device::{Device, Unshaped};
+use device::{Device, Unshaped, is_shape};
 use log_device::{Log, LogRefusal, Unopened};
 use memory::Memory;
 use mirror::Mirror;
@@ -77,11 +78,11 @@ impl Words {
             (λ words. Limits blocks width × (held words ≡ parts (replicate (blocks * width) 0) (replicate (blocks * width) 0) (replicate blocks 0) width))
             (λ fault. (fault ≡ Fault.Shape) → Limits blocks width → ⊥) }
     {
-        if !(1..=4_096).contains(&blocks) || !(1..=64).contains(&width) {
-            return Err(Fault::Shape);
-        }
         let blocks = blocks as usize;
         let width = width as usize;
+        if !is_shape(blocks, width) {
+            return Err(Fault::Shape);
+        }
         Ok(Words {
             current: vec![in heap; 0u32; blocks * width]?,
             persisted: vec![in heap; 0u32; blocks * width]?,

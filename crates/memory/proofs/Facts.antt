@@ -7,11 +7,11 @@ use Rattle.std.proofs.ByRecursion.{All-append, All-take, All-drop}
 use Rattle.std.proofs.lemmas.Slice.{between-put_mid, drop-put_mid, take-put_mid_below}
 use Rattle.std.proofs.lemmas.List.FromFn.{length-map-range_with_len}
 use Rattle.std.proofs.lemmas.Bool.{cases_eq, cases_order}
-use Rattle.device.specs.Meaning.{Meaning, Cell, words, admitted, reading, held, written, written_cell, flushed, flushed_cell, no_cell, own, endless, Cut, CutCell, CutTo}
+use Rattle.device.specs.Meaning.{Meaning, Cell, Limits, words, admitted, reading, held, written, written_cell, flushed, flushed_cell, no_cell, own, endless, Cut, CutCell, CutTo}
 use Rattle.device.specs.declared.Layer.TheVariants.{Memory}
 use Rattle.device.proofs.Calls.{let_in, reading_at}
-use Rattle.device.proofs.Tables.{map_map, get_or_table, set_table, same_table}
-use Rattle.memory.specs.Fit.{rows, block_length}
+use Rattle.device.proofs.Tables.{map_map, get_or_table, set_table, same_table, rows}
+use Rattle.memory.specs.Fit.{block_length}
 use Rattle.memory.specs.Memory.{Parts, parts, memory, cleared, Sound, block_of, cell_of, Leaves, LeavesBlock, Outlasts}
 
 module _ (xs : List ℕ) (w n : ℕ) (long : length xs ≡ n * w) where
@@ -94,10 +94,7 @@ module _ (p : Parts) (s : Sound p) where
           shaped = record {
             cur_len = put_length cur w (length marks) s.shaped.cur_len b k ws h size count ∙ ap (λ j. j * w) (sym n);
             per_len = s.shaped.per_len ∙ ap (λ j. j * w) (sym n);
-            some = omega (arith, s.shaped.some);
-            few = omega (arith, s.shaped.few);
-            broad = s.shaped.broad;
-            narrow = s.shaped.narrow;
+            limits = subst (λ j. Limits j w) (sym n) s.shaped.limits;
           };
           counts = λ j j<. ⊎_elim
               (λ (e : j ≡ b). subst (λ i. get_or (set marks b v) i 0 ≤ 2) (sym e) (omega (arith, get_or-set_same marks b v 0 h)))

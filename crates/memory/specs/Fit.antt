@@ -1,17 +1,12 @@
 -- What the device in memory keeps makes its meaning lawful.
-use Rattle.std.specs.Prelude.{◌≡◌, ℕ, ◌+◌, ◌*◌, ◌<◌, ◌≤◌, List, length, drop}
-use Rattle.std.proofs.Common.{ap, arith, add-mul}
-use Rattle.std.proofs.lemmas.Nat.{mul-le}
+use Rattle.std.specs.Prelude.{◌≡◌, ℕ, ◌*◌, ◌<◌, List, length, drop}
+use Rattle.std.proofs.Common.{ap, arith}
 use Rattle.std.proofs.lemmas.List.{length-take-le, length-drop}
 use Rattle.std.proofs.ByRecursion.{All-take, All-drop}
 use Rattle.std.proofs.lemmas.List.FromFn.{length-map-range_with_len}
 use Rattle.device.specs.Meaning.{LawfulCell, Lawful, words}
-use Rattle.device.proofs.Tables.{all_table}
+use Rattle.device.proofs.Tables.{all_table, rows}
 use Rattle.memory.specs.Memory.{memory, Parts, Sound, block_of, cell_of}
-
--- the rows before row b end where it begins
-pub rows : (k b w : ℕ) → k < b → k * w + w ≤ b * w
-rows k b w h = omega (arith, mul-le (k + 1) w b w (omega arith) (omega arith), add-mul k 1 w)
 
 module _ (xs : List ℕ) (w n : ℕ) (long : length xs ≡ n * w) where
   pub block_length : (b : ℕ) → b < n → length (block_of w xs b) ≡ w
@@ -21,16 +16,17 @@ module _ (p : Parts) (s : Sound p) where
   pub fit : Lawful (memory p)
   fit =
       let h = s.shaped in
+      let l = h.limits in
       record {
-        some = simp (length-map-range_with_len) h.some;
-        few = simp (length-map-range_with_len) h.few;
-        broad = h.broad;
-        narrow = h.narrow;
-        cells = all_table (LawfulCell p.width) (cell_of p) (length p.marks) (λ k l. record {
-          persisted = (block_length p.persisted p.width (length p.marks) h.per_len k l, All-take _ p.width _ (All-drop _ (k * p.width) p.persisted s.per_fit));
-          current = (block_length p.current p.width (length p.marks) h.cur_len k l, All-take _ p.width _ (All-drop _ (k * p.width) p.current s.cur_fit));
-          mark = s.counts k l;
-          clean = λ e. ap words (s.clean k l e);
+        some = simp (length-map-range_with_len) l.some;
+        few = simp (length-map-range_with_len) l.few;
+        broad = l.broad;
+        narrow = l.narrow;
+        cells = all_table (LawfulCell p.width) (cell_of p) (length p.marks) (λ k k<. record {
+          persisted = (block_length p.persisted p.width (length p.marks) h.per_len k k<, All-take _ p.width _ (All-drop _ (k * p.width) p.persisted s.per_fit));
+          current = (block_length p.current p.width (length p.marks) h.cur_len k k<, All-take _ p.width _ (All-drop _ (k * p.width) p.current s.cur_fit));
+          mark = s.counts k k<;
+          clean = λ e. ap words (s.clean k k< e);
         });
         left = omega arith;
       }

@@ -1,7 +1,7 @@
 -- What the device in memory means, what it keeps, and what a cut of the power may leave of it.
 use Rattle.std.specs.Prelude.{◌≡◌, ℕ, zero, suc, ◌*◌, ◌^◌, ◌<◌, ◌≤◌, ◌⊎◌, List, map, length, take, drop, replicate, slice_index}
 use Rattle.std.specs.List.{range_with_len, AllByRecursion}
-use Rattle.device.specs.Meaning.{Meaning, Cell, words, own, endless, Cut}
+use Rattle.device.specs.Meaning.{Meaning, Cell, Limits, words, own, endless, Cut}
 use Rattle.device.specs.declared.Layer.TheVariants.{Memory}
 use Rattle.memory.specs.declared.Slices.{Slices}
 
@@ -33,10 +33,7 @@ memory p = record { width = p.width; cells = map (cell_of p) (range_with_len 0 (
 
 -- as many blocks as marks, the width of a block, and words for each of them
 pub record Shaped (p : Parts) : Type 0 where
-  pub some : 1 ≤ length p.marks
-  pub few : length p.marks ≤ 4096
-  pub broad : 1 ≤ p.width
-  pub narrow : p.width ≤ 64
+  pub limits : Limits (length p.marks) p.width
   pub cur_len : length p.current ≡ length p.marks * p.width
   pub per_len : length p.persisted ≡ length p.marks * p.width
 

@@ -10,7 +10,7 @@ ghost use Rattle.std.proofs.Props.{props};
 ghost use Rattle.memory.specs.Fit.{fit};
 ghost use Rattle.memory.specs.Memory.{memory, parts, parts_of, Sound, Shaped, block_of, cleared, Outlasts};
 
-use device::{Device, DeviceFault, Layer, LayerMark, Unshaped};
+use device::{Device, DeviceFault, Layer, LayerMark, Unshaped, is_shape};
 
 #[derive(Drop)]
 pub struct Memory<'a> {
@@ -33,8 +33,7 @@ impl<'a> Slices<'a> {
         ensures { MatchBool result (Shaped (parts_of self.now width)) (Shaped (parts_of self.now width) → ⊥) }
     {
         let blocks = self.marks.len();
-        (1..=4096).contains(&blocks)
-            && (1..=64).contains(&width)
+        is_shape(blocks, width)
             && self.current.len() == blocks * width
             && self.persisted.len() == blocks * width
     }

@@ -2,8 +2,7 @@
 use Rattle.std.proofs.Common.{◌≡◌, ℕ, ◌<◌, ◌≤◌, ◌⊎◌, List, sym, refl, ap, ◌∙◌, subst, inl, inr, ⊎_elim, arith}
 use Rattle.std.proofs.lemmas.Bool.{cases_eq}
 use Rattle.std.proofs.lemmas.List.{length-set, length-map}
-use Rattle.device.specs.Meaning.{Meaning, Cell, Content, words, damaged, Cut, CutCell, CutTo, Held, Lawful, LawfulCell, written, written_cell, flushed, flushed_cell, blocks_of}
-use Rattle.device.specs.Cuts.{cell_at}
+use Rattle.device.specs.Meaning.{Meaning, Cell, Content, words, damaged, Cut, CutCell, CutTo, Held, Lawful, LawfulCell, written, written_cell, flushed, flushed_cell, blocks_of, cell_at}
 use Rattle.device.proofs.Cuts.{cut_flushed}
 use Rattle.device.proofs.Choices.{flush_at, write_at, write_off}
 use Rattle.mirror.specs.Mirrored.{Alike, One, mirrored, mirrored_cell, both_at, pick, mirrored_blocks, held_pick, first_lawful, second_lawful}

@@ -5,8 +5,7 @@ use Rattle.std.proofs.lemmas.List.{length-map, length-set}
 use Rattle.std.proofs.lemmas.Bool.{cases_eq}
 use Rattle.std.proofs.lemmas.Bool.Decides.{nat_tests}
 use Rattle.device.specs.declared.LayerMark.{LayerMark}
-use Rattle.device.specs.Meaning.{Meaning, Cell, words, raised, flushed, flushed_cell, written, written_cell, no_cell, spent, blocks_of}
-use Rattle.device.specs.Cuts.{cell_at}
+use Rattle.device.specs.Meaning.{Meaning, Cell, words, raised, flushed, flushed_cell, written, written_cell, no_cell, spent, blocks_of, cell_at}
 use Rattle.device.proofs.Choices.{flush_at, write_at, write_off}
 use Rattle.device.proofs.Tables.{get_or_table, set_table, same_table, map_map}
 use Rattle.mirror.specs.Mirrored.{Allowed, Alike, One, mirrored, mirrored_cell, both_at, pick}

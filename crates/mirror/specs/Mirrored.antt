@@ -6,8 +6,7 @@ use mathlib.Core.HLevel.{is_prop→PathP}
 use Rattle.std.specs.List.{range_with_len}
 use Rattle.std.proofs.lemmas.List.FromFn.{length-map-range_with_len}
 use Rattle.std.proofs.ByRecursion.{All-get_or}
-use Rattle.device.specs.Meaning.{Meaning, Cell, Content, words, damaged, raised, LawfulCell, Lawful, Held, no_cell, blocks_of}
-use Rattle.device.specs.Cuts.{cell_at}
+use Rattle.device.specs.Meaning.{Meaning, Cell, Content, words, damaged, raised, LawfulCell, Lawful, Held, no_cell, blocks_of, cell_at}
 use Rattle.device.proofs.Tables.{all_table}
 
 -- the sides that a mirror is built over: as many blocks, and as wide

@@ -2,8 +2,8 @@
 use Rattle.std.proofs.Common.{◌≡◌, ℕ, zero, suc, ◌+◌, ◌<◌, ◌≤◌, min, Bool, true, false, T, eqb, ◌⊎◌, List, [], ◌∷◌, ◌++◌, length, take, set, Some, None, Option, sym, refl, ap, ◌∙◌, subst, inl, inr, arith, eqb→eq}
 use Rattle.std.proofs.lemmas.Bool.{cases_eq, cases_lt}
 use Rattle.std.proofs.lemmas.List.{get_or_past}
-use Rattle.device.specs.Meaning.{Content, Cell, Meaning, blocks_of, flushed_cell, written_cell, written, no_cell}
-use Rattle.device.specs.Cuts.{Op, Op.write, Op.flush, Choice, Cutting, apply, replay, cut, cut_cell, remains, cell_at}
+use Rattle.device.specs.Meaning.{Content, Cell, Meaning, blocks_of, flushed_cell, written_cell, written, no_cell, cell_at}
+use Rattle.device.specs.Cuts.{Op, Op.write, Op.flush, Choice, Cutting, apply, replay, cut, cut_cell, remains}
 use Rattle.device.proofs.Choices.{cut_at, flush_at, write_at, write_off, blocks_apply}
 use Rattle.page.specs.Slot.{Root, Table}
 use Rattle.model.specs.Plain.{place}

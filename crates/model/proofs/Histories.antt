@@ -2,8 +2,8 @@
 use Rattle.std.proofs.Common.{◌≡◌, ℕ, zero, suc, ◌+◌, ◌%◌, ◌<◌, ◌≤◌, min, Bool, true, false, cond, ◌||◌, T, eqb, ltb, ◌⊎◌, List, [], ◌∷◌, ◌++◌, length, get_or, take, set, Some, None, Ok, Err, Option, Result, sym, refl, ap, ◌∙◌, subst, ap₂, inl, inr, arith, lit≤, eqb→eq, length-set}
 use mathlib.Core.Path.{fun_ext}
 use lib.Dec.{eqb_refl}
-use Rattle.device.specs.Meaning.{Content, Content.words, Cell, Meaning, blocks_of, current_at, written_cell, written}
-use Rattle.device.specs.Cuts.{Op, Op.write, Op.flush, Choice, Choice.old, Choice.new, Choice.other, Cutting, apply, replay, cut, cut_cell, remains, cell_at}
+use Rattle.device.specs.Meaning.{Content, Content.words, Cell, Meaning, blocks_of, current_at, written_cell, written, cell_at}
+use Rattle.device.specs.Cuts.{Op, Op.write, Op.flush, Choice, Choice.old, Choice.new, Choice.other, Cutting, apply, replay, cut, cut_cell, remains}
 use Rattle.device.proofs.Choices.{cut_at, cut_blocks, flush_at, write_at, write_off, blocks_apply, blocks_replay, width_replay}
 use Rattle.page.specs.Slot.{Root, Table, slot_words}
 use Rattle.model.specs.declared.refusal.Refusal.{Refusal}

@@ -3,8 +3,8 @@ use Rattle.std.proofs.Common.{◌≡◌, ℕ, zero, suc, ◌+◌, ◌-◌, ◌*�
 use Rattle.std.proofs.ByRecursion.{All-append}
 use Rattle.std.proofs.lemmas.Bool.{cond_both}
 use Rattle.std.proofs.lemmas.List.{map-append}
-use Rattle.device.specs.Meaning.{Content, Content.words, Meaning, blocks_of, current_at, written}
-use Rattle.device.specs.Cuts.{Op, Op.write, replay, cell_at}
+use Rattle.device.specs.Meaning.{Content, Content.words, Meaning, blocks_of, current_at, written, cell_at}
+use Rattle.device.specs.Cuts.{Op, Op.write, replay}
 use Rattle.device.proofs.Choices.{write_at, write_off, blocks_apply}
 use Rattle.page.specs.Block.{Block, encode, Layout}
 use Rattle.page.proofs.Exact.{back}

@@ -1,7 +1,7 @@
 -- The volume on its device, what each call does, histories of calls and cuts, and the law of histories.
 use Rattle.std.specs.Prelude.{◌≡◌, ℕ, suc, ◌%◌, ◌<◌, ◌≤◌, Bool, true, cond, ◌&&◌, T, List, [], ◌∷◌, take, Some, None, Ok, Err, Option, Result, ◌==◌, nat_le, slice_set}
-use Rattle.device.specs.Meaning.{Content, Content.words, Content.damaged, Meaning, blocks_of, current_at}
-use Rattle.device.specs.Cuts.{Op, Op.write, Op.flush, Cutting, replay, cut, cell_at}
+use Rattle.device.specs.Meaning.{Content, Content.words, Content.damaged, Meaning, blocks_of, current_at, cell_at}
+use Rattle.device.specs.Cuts.{Op, Op.write, Op.flush, Cutting, replay, cut}
 use Rattle.page.specs.Slot.{Table, slot_words, slot_read}
 use Rattle.counts.specs.Counts.{occ}
 use Rattle.model.specs.declared.refusal.Refusal.{Refusal}

@@ -2,17 +2,13 @@
 use Rattle.std.proofs.Common.{◌≡◌, ℕ, zero, suc, ◌<◌, ◌≤◌, List, [], ◌∷◌, map, take, set, Ok, Err, Result, sym, refl, ap, ◌∙◌, arith}
 use Rattle.std.proofs.lemmas.List.{map-set, get_or-map, get_or-take, take-map, length-take-le}
 use Rattle.device.specs.declared.DeviceFault.{DeviceFault}
-use Rattle.device.specs.Meaning.{Meaning, Cell, raised, flushed, flushed_cell, written, written_cell, no_cell, spent, blocks_of, passed, after_write}
-use Rattle.device.specs.Cuts.{cell_at}
-use Rattle.quota.specs.Limited.{limited, raised_cell}
+use Rattle.device.specs.Meaning.{Meaning, Cell, raised, flushed, flushed_cell, written, written_cell, no_cell, spent, blocks_of, passed, after_write, cell_at}
+use Rattle.device.proofs.Mapped.{mapped_flush}
+use Rattle.quota.specs.Limited.{limited, raised_cell, raised_content}
 
 -- after a flush below
-map_flush : (cs : List Cell) → map raised_cell (map flushed_cell cs) ≡ map flushed_cell (map raised_cell cs)
-map_flush [] = refl
-map_flush (c ∷ cs) = ap (λ t. raised_cell (flushed_cell c) ∷ t) (map_flush cs)
-
 pub limited_flushed : (n : ℕ) (m : Meaning) → limited n (flushed m) ≡ flushed (limited n m)
-limited_flushed n m = ap with_cells (ap (map raised_cell) (take-map flushed_cell n m.cells) ∙ map_flush (take n m.cells))
+limited_flushed n m = ap with_cells (ap (map raised_cell) (take-map flushed_cell n m.cells) ∙ mapped_flush raised_content (take n m.cells))
   where
     with_cells : List Cell → Meaning
     with_cells cs = record { width = m.width; cells = cs; left = m.left; left_mark = raised m.left_mark }

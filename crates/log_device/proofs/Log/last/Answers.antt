@@ -1,6 +1,6 @@
 use Rattle.std.proofs.Common.{◌+◌, ◌<◌, None, length, vec_items, arith, sym, ◌∙◌}
 use Rattle.std.proofs.lemmas.List.{get_or_default}
-use Rattle.log_device.specs.Fit.{rows}
+use Rattle.device.proofs.Tables.{rows}
 use Rattle.log_device.proofs.Log.last.Goals as goal
 
 pub slice_bounds-result-end : goal.slice_bounds-result-end

@@ -3,7 +3,7 @@ use Rattle.std.specs.List.{AllByRecursion}
 use Rattle.std.proofs.ByRecursion.{All-from_get_or}
 use Rattle.device.specs.Meaning.{written}
 use Rattle.memory.specs.Memory.{parts_of, memory}
-use Rattle.memory.specs.Fit.{rows}
+use Rattle.device.proofs.Tables.{rows}
 use Rattle.memory.proofs.Facts.{write_after, write_sound}
 use Rattle.memory.proofs.Slices.put.Goals as goal
 
