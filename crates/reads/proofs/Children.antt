@@ -50,7 +50,7 @@ module _ (c : ℕ → Content) where
       let st = stands_block l x a in
       let so : Sound c l (inside x) = record { low = k; high = m; below = a.1; span = p.0; enough = enough l (length (inside x)) (omega (arith, p.1, e)); valid = v } in
       record {
-        full = record { block = block l x; stands = st; sound = so; some = omega (arith, p.1, e) };
+        full = record { sound = record { block = block l x; stands = st; sound = so }; some = omega (arith, p.1, e) };
         stands = st;
         rows = rw st refl;
         some = omega (arith, p.1, e);
@@ -137,7 +137,7 @@ module _ (c : ℕ → Content) where
       omega (arith, some_rows l (inside e.1) k.sound k.some, length-append (rows_in c l (inside e.1)) (rows_in c (suc l) r))
 
   pub full_rows : (x : ℕ) → FullAt c x → 1 ≤ length (rows_at c x)
-  full_rows x f = rw f.stands (some_rows f.block.level f.block.entries f.sound f.some)
+  full_rows x f = rw f.sound.stands (some_rows f.sound.block.level f.sound.block.entries f.sound.sound f.some)
 
   -- the rows of the entries before a place, and those from it on
   pub rows_split : (l : ℕ) (es : List (ℕ × ℕ)) (k : ℕ) → rows_in c l es ≡ rows_in c l (take k es) ++ rows_in c l (drop k es)

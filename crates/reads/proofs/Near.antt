@@ -112,7 +112,7 @@ module _ (c : ℕ → Content) (x s : ℕ) (found : List (ℕ × ℕ)) (left rig
 -- a block whose rows are all on one side of s
 module _ (c : ℕ → Content) (x s : ℕ) (found : List (ℕ × ℕ)) (left right : Option ℕ) (f : Found c x s found left right) (full : FullAt c x) where
   filled : 1 ≤ length found
-  filled = f.some (rw full.stands full.some)
+  filled = f.some (rw full.sound.stands full.some)
 
   module _ (low : Each (λ (r : ℕ × ℕ). r.0 < s) (rows_at c x)) where
     low_parts : Each (λ (r : ℕ × ℕ). r.0 < s) (f.before ++ (found ++ f.after))

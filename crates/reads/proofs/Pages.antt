@@ -32,9 +32,6 @@ pub readable : (m : Meaning) (x : ℕ) → SoundAt (current_at m) x → is_some 
 unfolding block_at
 readable m x s = ap is_some s.stands
 
-pub of_full : (m : Meaning) (x : ℕ) → FullAt (current_at m) x → SoundAt (current_at m) x
-of_full m x f = record { block = f.block; stands = f.stands; sound = f.sound }
-
 -- the child of an entry of page p, where y is the value that was read from its place i
 pub record Child (m : Meaning) (x : ℕ) (p : Page) (i y : ℕ) : Type 0 where
   pub is : to (current_at m) (entries p) i ≡ y

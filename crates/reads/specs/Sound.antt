@@ -44,7 +44,5 @@ module _ (c : ℕ → Content) where
 
   -- block x is in a sound tree and has entries
   pub record FullAt (x : ℕ) : Type 0 where
-    pub block : Block
-    pub stands : block_in (c x) ≡ Some block
-    pub sound : Sound block.level block.entries
-    pub some : 1 ≤ length block.entries
+    pub sound : SoundAt x
+    pub some : 1 ≤ length sound.block.entries

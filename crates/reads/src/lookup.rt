@@ -57,8 +57,8 @@ pub fn at<D: Device>(store: &mut Store<D>, root: Root, speed: u32) -> Option<i32
     let place = descend(store, root.block, speed);
     let Around { below, above } = Around::of(&rows_of(&place.leaf), speed);
     match (below, above) {
-        (Some(below), Some(above)) => angle_by(Some(below), Some(above), speed),
         (None, above) => angle_by(nearest(store, place.left, speed).below, above, speed),
         (below, None) => angle_by(below, nearest(store, place.right, speed).above, speed),
+        (below, above) => angle_by(below, above, speed),
     }
 }

@@ -1,11 +1,11 @@
 use Rattle.std.proofs.Common.{◌≡◌, ℕ, ◌<◌, List, get_or, sym, ap, subst, arith}
-use Rattle.reads.proofs.Pages.{here, readable, child_of, of_full}
+use Rattle.reads.proofs.Pages.{here, readable, child_of}
 use Rattle.reads.proofs.Places.{found_here, found_above, some_entries}
 use Rattle.page.proofs.Pages.{entries_length}
 use Rattle.page.specs.View.{entries}
 use Rattle.device.specs.Meaning.{Meaning, current_at}
 use Rattle.page.specs.Block.{block_at, level_of}
-use Rattle.reads.specs.Sound.{FullAt}
+use Rattle.reads.specs.Sound.{SoundAt}
 use Rattle.reads.specs.Descent.{Found}
 use Rattle.reads.proofs.descent.+descend.Goals as goal
 
@@ -34,7 +34,7 @@ descend-leaf-requires g t c κs within =
     let same : m ≡ n = ap (λ (q : Meaning × List ℕ). q.0) (sym c.read_page-page.ensures.kept) in
     let k = child_of m c.args.block p c.covering-i.result c.index-deref-i.result c.deref.result.now (here m c.args.block p c.requires c.read_page-page.ensures.page) (omega (arith, c.if-page-eq0.false)) c.deref.ensures.0 c.covering-i.ensures.within in
     let y = (get_or c.deref.result.now c.covering-i.result c.index-deref-i.result).value in
-    (omega (arith, c.decreases, k.lower, ap (λ (z : Meaning). level_of (block_at z y)) same), (within, of_full n y (subst (λ (z : Meaning). FullAt (current_at z) y) same k.full)))
+    (omega (arith, c.decreases, k.lower, ap (λ (z : Meaning). level_of (block_at z y)) same), (within, subst (λ (z : Meaning). SoundAt (current_at z) y) same k.full.sound))
 
 pub returns-clause-found : goal.returns-clause-found
 returns-clause-found g t c =

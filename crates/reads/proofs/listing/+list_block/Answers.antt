@@ -12,7 +12,7 @@ use Rattle.tree.proofs.Over.{map-append}
 use Rattle.table.specs.Rows.{pair_of, angle_of}
 use Rattle.reads.specs.Sound.{SoundAt, rows_at, rows_in}
 use Rattle.reads.specs.Lists.{due, written}
-use Rattle.reads.proofs.Pages.{here, readable, of_full, leaf_rows, leaf_valid, next_of, due_page}
+use Rattle.reads.proofs.Pages.{here, readable, leaf_rows, leaf_valid, next_of, due_page}
 use Rattle.reads.proofs.Places.{some_entries}
 use Rattle.reads.proofs.Written.{due_append, both, empty_slice}
 use Rattle.reads.proofs.listing.+list_block.Goals as goal
@@ -63,7 +63,7 @@ list_block-n-requires g t c κs within =
     let k = c.covering-first.result in
     let n = next_of m c.args.block p k c.loop-entry.entry-index e (take (length ys - k) (drop k ys)) (here m c.args.block p c.requires c.read_page-page.ensures.page) (omega (arith, c.if-page-eq0.false)) (rest ys p.entries.items k c.deref-2.ensures.0) c.loop-entry-test.true c.entry-item.is in
     let same : c.loop-entry.store.0 ≡ m = ap (λ (q : Meaning × List ℕ). q.0) c.loop-entry.invariant.kept in
-    (omega (arith, c.decreases, n.lower, ap (λ (z : Meaning). level_of (block_at z e.value)) same), (within, subst (λ (z : Meaning). SoundAt (current_at z) e.value) (sym same) (of_full m e.value n.full)))
+    (omega (arith, c.decreases, n.lower, ap (λ (z : Meaning). level_of (block_at z e.value)) same), (within, subst (λ (z : Meaning). SoundAt (current_at z) e.value) (sym same) n.full.sound))
 
 pub loop-entry-preserved : goal.loop-entry-preserved
 loop-entry-preserved g t c =

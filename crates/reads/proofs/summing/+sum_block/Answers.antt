@@ -8,7 +8,7 @@ use Rattle.reads.specs.Summary.{summary_of}
 use Rattle.tree.proofs.Over.{map-append}
 use Rattle.table.specs.Rows.{pair_of, angle_of}
 use Rattle.reads.specs.Sound.{SoundAt, rows_at, rows_in}
-use Rattle.reads.proofs.Pages.{here, readable, of_full, page_rows, leaf_rows, leaf_valid, next_of}
+use Rattle.reads.proofs.Pages.{here, readable, page_rows, leaf_rows, leaf_valid, next_of}
 use Rattle.reads.proofs.Totals.{summary-append}
 use Rattle.reads.proofs.summing.+sum_block.Goals as goal
 
@@ -37,7 +37,7 @@ sum_block-requires g t c κs within =
     let n = next_of m c.args.block p 0 c.loop-entry.entry-index e c.deref-entry-items.result.now (here m c.args.block p c.requires c.read_page-page.ensures.page) (omega (arith, c.if-page-eq0.false)) c.deref-entry-items.ensures.0 c.loop-entry-test.true c.entry-item.is in
     let same : c.loop-entry.store.0 ≡ m = ap (λ (q : Meaning × List ℕ). q.0) c.loop-entry.invariant.kept in (
       omega (arith, c.decreases, n.lower, ap (λ (z : Meaning). level_of (block_at z e.value)) same),
-      (within.0, (within.1, subst (λ (z : Meaning). SoundAt (current_at z) e.value) (sym same) (of_full m e.value n.full))),
+      (within.0, (within.1, subst (λ (z : Meaning). SoundAt (current_at z) e.value) (sym same) n.full.sound)),
     )
 
 pub loop-entry-preserved : goal.loop-entry-preserved
