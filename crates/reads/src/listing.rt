@@ -4,6 +4,7 @@ ghost use Rattle.device.specs.Meaning.{current_at};
 ghost use Rattle.tree.specs.Node.{map_e};
 ghost use Rattle.model.specs.Plain.{from};
 ghost use Rattle.table.specs.Rows.{pair_of, angle_of};
+ghost use Rattle.page.specs.View.{root_pair};
 ghost use Rattle.model.specs.TreeBlocks.{GoodOn};
 ghost use Rattle.reads.specs.Rows.{rows_on};
 ghost use Rattle.reads.specs.Sound.{SoundAt, rows_at};
@@ -55,10 +56,10 @@ fn list_block<D: Device>(store: &mut Store<D>, block: u32, speed: u32, out: &mut
 // The first rows of a speed or above, as many as the slice takes: how many they are. Goes down once, reads only the leaves that it
 // lists from, and no block for an empty slice.
 pub fn list<D: Device>(store: &mut Store<D>, root: Root, speed: u32, out: &mut [Pair]) -> usize
-    requires { GoodOn store.old.0 (root.height, root.block) }
+    requires { GoodOn store.old.0 (root_pair root) }
     ensures kept { store.new ≡ store.old }
-    ensures count { result ≡ min (length out.old) (length (from speed (rows_on store.old.0 (root.height, root.block)))) }
-    ensures listed { map row_in (take result out.new) ≡ take (length out.old) (from speed (rows_on store.old.0 (root.height, root.block))) }
+    ensures count { result ≡ min (length out.old) (length (from speed (rows_on store.old.0 (root_pair root)))) }
+    ensures listed { map row_in (take result out.new) ≡ take (length out.old) (from speed (rows_on store.old.0 (root_pair root))) }
     ensures rest { drop result out.new ≡ drop result out.old }
 {
     list_block(store, root.block, speed, out)

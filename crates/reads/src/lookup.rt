@@ -6,6 +6,7 @@ ghost use Rattle.table.specs.Angles.{angle_at};
 ghost use Rattle.table.specs.Around.{StandsAround};
 ghost use Rattle.tree.specs.Node.{map_e};
 ghost use Rattle.tree.specs.Reads.{look};
+ghost use Rattle.page.specs.View.{root_pair};
 ghost use Rattle.model.specs.TreeBlocks.{GoodOn};
 ghost use Rattle.reads.specs.Rows.{rows_on};
 ghost use Rattle.reads.specs.Descent.{Beside, rows_beside};
@@ -27,9 +28,9 @@ fn look_in(rows: &[Row], speed: u32) -> Option<i32>
 
 // The angle of the row of a speed, if there is one. Reads one block a level.
 pub fn get<D: Device>(store: &mut Store<D>, root: Root, speed: u32) -> Option<i32>
-    requires { GoodOn store.old.0 (root.height, root.block) }
+    requires { GoodOn store.old.0 (root_pair root) }
     ensures kept { store.new ≡ store.old }
-    ensures answer { result ≡ look speed (rows_on store.old.0 (root.height, root.block)) }
+    ensures answer { result ≡ look speed (rows_on store.old.0 (root_pair root)) }
 {
     let place = descend(store, root.block, speed);
     look_in(&rows_of(&place.leaf), speed)
@@ -50,9 +51,9 @@ fn nearest<D: Device>(store: &mut Store<D>, block: Option<u32>, speed: u32) -> A
 // The angle at a speed, if there is a row. The leaf that covers the speed has a row on one side of it at least, so of the other
 // blocks beside the way down at most one is gone down: at most two blocks a level are read.
 pub fn at<D: Device>(store: &mut Store<D>, root: Root, speed: u32) -> Option<i32>
-    requires { GoodOn store.old.0 (root.height, root.block) }
+    requires { GoodOn store.old.0 (root_pair root) }
     ensures kept { store.new ≡ store.old }
-    ensures answer { result ≡ angle_at speed (rows_on store.old.0 (root.height, root.block)) }
+    ensures answer { result ≡ angle_at speed (rows_on store.old.0 (root_pair root)) }
 {
     let place = descend(store, root.block, speed);
     let Around { below, above } = Around::of(&rows_of(&place.leaf), speed);

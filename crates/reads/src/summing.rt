@@ -3,6 +3,7 @@ ghost use Rattle.std.specs.Prelude.{◌≡◌, map};
 ghost use Rattle.device.specs.Meaning.{current_at};
 ghost use Rattle.tree.specs.Node.{map_e};
 ghost use Rattle.table.specs.Rows.{pair_of, angle_of};
+ghost use Rattle.page.specs.View.{root_pair};
 ghost use Rattle.model.specs.TreeBlocks.{GoodOn};
 ghost use Rattle.reads.specs.Rows.{rows_on};
 ghost use Rattle.reads.specs.Summary.{summary_of};
@@ -41,9 +42,9 @@ fn sum_block<D: Device, S: Summary>(store: &mut Store<D>, block: u32) -> S
 
 // The summary of all rows, in their order. Each block is read once.
 pub fn summary<D: Device, S: Summary>(store: &mut Store<D>, root: Root) -> S
-    requires { GoodOn store.old.0 (root.height, root.block) }
+    requires { GoodOn store.old.0 (root_pair root) }
     ensures kept { store.new ≡ store.old }
-    ensures answer { result ≡ summary_of S.summing (rows_on store.old.0 (root.height, root.block)) }
+    ensures answer { result ≡ summary_of S.summing (rows_on store.old.0 (root_pair root)) }
 {
     sum_block(store, root.block)
 }
