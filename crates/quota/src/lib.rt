@@ -79,3 +79,38 @@ impl<D: Device> Device for Quota<D> {
         self.below.flush();
     }
 }
+
+#[cfg(test)]
+mod tests {
+    use super::*;
+    use memory::Memory;
+    use std::test::Fail;
+
+    #[test]
+    fn offers_the_first_blocks(rt: HostRuntime) -> Result<(), Fail> {
+        let mut current = [1, 2, 3];
+        let mut persisted = [1, 2, 3];
+        let mut marks = [0, 0, 0];
+        let Ok(memory) = Memory::open(&mut current, &mut persisted, &mut marks, 1) else {
+            return Err(Fail::new("a good shape is refused"));
+        };
+        let Ok(mut quota) = Quota::build(memory, 2) else {
+            return Err(Fail::new("a quota of two of three blocks is refused"));
+        };
+        assert_eq!(rt; quota.blocks(), 2);
+        assert_eq!(rt; quota.left(), (u32::MAX, Layer::Memory.own().raised()));
+        let mut out = [0];
+        quota.write(1, &[7])?;
+        quota.read(1, &mut out)?;
+        assert_eq!(rt; out, [7]);
+        assert_eq!(rt;
+            quota.write(2, &[7]),
+            Err(DeviceFault::Range(Layer::Quota.own()))
+        );
+        let Err(refused) = Quota::build(quota.into_below(), 4) else {
+            return Err(Fail::new("a quota of four of three blocks is built"));
+        };
+        assert_eq!(rt; refused.number(), 2);
+        Ok(())
+    }
+}
