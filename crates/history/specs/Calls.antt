@@ -1,5 +1,5 @@
 -- The calls and answers of a machine, as the model names them.
-use Rattle.std.specs.Prelude.{ℕ, List, map, take, Ok, Err, Result}
+use Rattle.std.specs.Prelude.{◌≡◌, ℕ, ◌≤◌, List, map, length, take, drop, Ok, Err, Result}
 use Rattle.table.specs.declared.pair.Pair.{Pair}
 use Rattle.table.specs.Summary.{Summing}
 use Rattle.reads.specs.Lists.{row_in}
@@ -40,6 +40,10 @@ shown (Ok (Angle o)) = 0
 shown (Ok (Listed k)) = k
 shown (Ok (Joined x)) = 0
 shown (Err r) = 0
+
+-- a slice after k pairs were written to it from its start: the later ones keep their values
+abbrev pub Filled : ℕ → List Pair → List Pair → Type 0
+Filled k old new = (k ≤ length new) × (drop k new ≡ drop k old)
 
 -- the answer, with the rows that the slice shows
 abbrev pub answer_of : {S : Type 0} → List Pair → Result (Answer S) Refusal → plain.Answer S

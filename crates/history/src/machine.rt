@@ -1,12 +1,12 @@
 // A volume and its device, in the state in which the last call or cut left them.
-ghost use Rattle.std.specs.Prelude.{◌≡◌, ◌≤◌, ℕ, List, length, drop, MatchResult};
+ghost use Rattle.std.specs.Prelude.{◌≡◌, ℕ, List, length, MatchResult};
 ghost use Rattle.table.specs.declared.pair.Pair.{Pair};
 ghost use Rattle.model.specs.Plain.{Call.ask};
 ghost use Rattle.model.specs.World.{Mode.mounted, Mode.sealed, Mode.down, Formatted, bare};
 ghost use Rattle.device.specs.Cuts.{replay};
 ghost use Rattle.model.specs.Onward.{formatting};
 ghost use Rattle.mount.specs.Formats.{Hindered};
-ghost use Rattle.history.specs.Calls.{ask_of, call_of, answer_of, shown, summed};
+ghost use Rattle.history.specs.Calls.{ask_of, call_of, answer_of, shown, summed, Filled};
 ghost use Rattle.history.specs.Law.{Lawful};
 ghost use Rattle.history.specs.Machine.{Stepped, Outcome, state_of};
 
@@ -34,8 +34,7 @@ fn ask<D: Device, S: Summary>(
     out: &mut [Pair],
 ) -> Result<Answer<S>, Refusal>
     ensures step { Stepped S (summed S.summing) (mounted volume.old.0, volume.old.1) (ask (ask_of (length out.old) call)) (answer_of out.new result) (mounted volume.new.0, volume.new.1) }
-    ensures rest { drop (shown result) out.new ≡ drop (shown result) out.old }
-    ensures fits { shown result ≤ length out.new }
+    ensures slice { Filled (shown result) out.old out.new }
 {
     match call {
         Ask::Create { clone } => {
@@ -73,8 +72,7 @@ fn while_mounted<D: Device, S: Summary>(
     out: &mut [Pair],
 ) -> (Machine<D>, Result<Answer<S>, Denied>)
     ensures step { Outcome (Stepped S (summed S.summing)) out.new (mounted volume.0, volume.1) (call_of (length out.old) call) result.1 (state_of D.Device.meaning result.0) }
-    ensures rest { drop (shown result.1) out.new ≡ drop (shown result.1) out.old }
-    ensures fits { shown result.1 ≤ length out.new }
+    ensures slice { Filled (shown result.1) out.old out.new }
 {
     match call {
         Call::Ask(question) => {
@@ -140,8 +138,7 @@ fn step<D: Device, S: Summary>(
     out: &mut [Pair],
 ) -> (Machine<D>, Result<Answer<S>, Denied>)
     ensures step { Outcome (Stepped S (summed S.summing)) out.new (state_of D.Device.meaning machine) (call_of (length out.old) call) result.1 (state_of D.Device.meaning result.0) }
-    ensures rest { drop (shown result.1) out.new ≡ drop (shown result.1) out.old }
-    ensures fits { shown result.1 ≤ length out.new }
+    ensures slice { Filled (shown result.1) out.old out.new }
 {
     match machine {
         Machine::Mounted(volume) => while_mounted(volume, call, out),
@@ -158,8 +155,7 @@ pub fn perform<D: Device, S: Summary>(
     out: &mut [Pair],
 ) -> (Machine<D>, Result<Answer<S>, Denied>)
     ensures law { Outcome (Lawful S (summed S.summing)) out.new (state_of D.Device.meaning machine) (call_of (length out.old) call) result.1 (state_of D.Device.meaning result.0) }
-    ensures rest { drop (shown result.1) out.new ≡ drop (shown result.1) out.old }
-    ensures fits { shown result.1 ≤ length out.new }
+    ensures slice { Filled (shown result.1) out.old out.new }
 {
     step(machine, heap, call, out)
 }

@@ -22,8 +22,8 @@ use word::Kind;
 // A mirror of (check over memory) and (check over log).
 pub type Mirrored<'a> = Mirror<Check<Memory<'a>>, Check<Log<'a>>>;
 
-// What the current words of a memory become where the power fails.
-const GARBAGE: u32 = 0xdead_dead;
+// What words become that a failing power leaves to chance.
+pub const GARBAGE: u32 = 0xdead_dead;
 
 // Why there are no devices.
 #[derive(Clone, Copy, PartialEq, Eq, Debug, Drop, Error)]

@@ -3,13 +3,10 @@ use super::line::{Cut, Patch};
 use check_layer::Check;
 use device::Device;
 use log_device::Log;
-use medium::Fault;
+use medium::{Fault, GARBAGE};
 use memory::{Memory, Slices};
 use mirror::Mirror;
 use std::alloc::Global;
-
-// What is left of a block that was written twice.
-const GARBAGE: u32 = 0xdead_dead;
 
 // What became of a patch.
 #[derive(Clone, Copy)]
