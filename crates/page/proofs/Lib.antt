@@ -3,3 +3,4 @@ pub mod Pages
 pub mod Exact
 pub mod Slots
 pub mod Editing
+pub mod Seen

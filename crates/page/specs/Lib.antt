@@ -2,3 +2,4 @@ pub mod Block
 pub mod Io
 pub mod Slot
 pub mod View
+pub mod Readable

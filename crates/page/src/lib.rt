@@ -7,6 +7,7 @@ ghost use Rattle.page.specs.Slot.{FormsExact, SlotsExact};
 
 mod codec;
 mod edits;
+pub mod glance;
 pub mod io;
 pub mod page;
 pub mod roots;

@@ -1,0 +1,131 @@
+// A tree block as the words of its block, to be read: an entry is taken from its two words when it is asked for.
+ghost use Rattle.std.specs.Prelude.{◌≡◌, ℕ, suc, ◌<◌, ◌≤◌, true, is_some, length, Some, slice_index_or};
+ghost use Rattle.device.specs.Meaning.{words};
+ghost use Rattle.page.specs.Block.{block_at};
+ghost use Rattle.page.specs.Io.{Wide};
+ghost use Rattle.page.specs.View.{view};
+ghost use Rattle.tree.specs.Reads.{look};
+
+use super::page::{Entry, Page};
+use arrayvec::ArrayVec;
+use device::Device;
+use std::marker::Model;
+use word::payload;
+
+// The words of a block that holds a page, in the front of a buffer as wide as any block that a volume uses.
+#[derive(Drop)]
+pub struct PageWords {
+    words: [u32; 40],
+}
+
+// The tree block that the words hold.
+impl Model for PageWords {
+    ghost use Rattle.page.specs.Block.{Block, read};
+
+    ghost Value = { Block };
+
+    ghost view = { λ p. read p.words };
+
+    ghost use Rattle.page.specs.Readable.{Readable};
+
+    ghost invariant = { λ p. Readable p.words };
+}
+
+impl PageWords {
+    // A leaf of no rows, for a page to be loaded over.
+    pub fn empty() -> PageWords {
+        PageWords { words: [0; 40] }
+    }
+
+    // Reads the page of a block that holds one.
+    pub fn load<D: Device>(&mut self, device: &mut D, block: u32)
+        requires wide { Wide (D.Device.meaning device.old) }
+        requires stands { is_some (block_at (D.Device.meaning device.old) block) ≡ true }
+        ensures same { D.Device.meaning device.new ≡ D.Device.meaning device.old }
+        ensures page { block_at (D.Device.meaning device.old) block ≡ Some self.new }
+    {
+        let width = device.width() as usize;
+        device.read(block, &mut self.words[..width]).unwrap();
+    }
+
+    // The level: 0 for a leaf.
+    pub fn level(&self) -> u32
+        ensures level { result ≡ self.now.level }
+        ensures low { result < 5 }
+    {
+        payload(self.words[0]) / 256
+    }
+
+    // How many entries.
+    pub fn len(&self) -> usize
+        ensures len { result ≡ length self.now.entries }
+        ensures few { result ≤ 15 }
+    {
+        (self.words[0] % 256) as usize
+    }
+
+    // The speed or separator of an entry.
+    pub fn speed(&self, i: usize) -> u32
+        requires { i < length self.now.entries }
+        ensures is { result ≡ (slice_index_or self.now.entries i (0, 0)).0 }
+        ensures small { result < 268435456 }
+    {
+        let words = &self.words;
+        payload(words[2 * i + 2])
+    }
+
+    // The payload of an entry.
+    pub fn value(&self, i: usize) -> u32
+        requires { i < length self.now.entries }
+        ensures is { result ≡ (slice_index_or self.now.entries i (0, 0)).1 }
+        ensures small { result < 268435456 }
+    {
+        let words = &self.words;
+        payload(words[2 * i + 3])
+    }
+
+    // The place of the entry that covers a speed: the last, or the first whose successor lies above the speed.
+    pub fn covering(&self, speed: u32) -> usize
+        requires { 0 < length self.now.entries }
+        ensures within { result < length self.now.entries }
+        ensures past { (k : ℕ) → k < result → (slice_index_or self.now.entries (suc k) (0, 0)).0 ≤ speed }
+        ensures high { suc result < length self.now.entries → speed < (slice_index_or self.now.entries (suc result) (0, 0)).0 }
+    {
+        let last = self.len() - 1;
+        for i in 0..last {
+            if speed < self.speed(i + 1) {
+                return i;
+            }
+        }
+        last
+    }
+
+    // The payload of the first entry of a speed, if there is one.
+    pub fn find(&self, speed: u32) -> Option<u32>
+        ensures { result ≡ look speed self.now.entries }
+    {
+        for i in 0..self.len() {
+            if speed == self.speed(i) {
+                return Some(self.value(i));
+            }
+        }
+        None
+    }
+
+    // The page in memory.
+    pub fn to_page(&self) -> Page
+        ensures { view result ≡ self.now }
+    {
+        let mut entries = ArrayVec::new();
+        for i in 0..self.len() {
+            entries.push(Entry {
+                speed: self.speed(i),
+                value: self.value(i),
+            });
+        }
+        Page {
+            level: self.level(),
+            entries,
+        }
+    }
+}
