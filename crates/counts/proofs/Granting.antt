@@ -17,7 +17,7 @@ module _ (cs : List ℕ) where
       (spare_first k (suc b) j at (omega arith) (omega arith) (λ i l m. before i (omega arith) m) here ∙ ap (λ n. at ∷ spare n (at + 1) cs) (omega arith))
 
   -- there is none
-  spare_none : (k b : ℕ) → ((i : ℕ) → b ≤ i → i < b + k → 0 < get_or cs i 0) → spare k b cs ≡ []
+  pub spare_none : (k b : ℕ) → ((i : ℕ) → b ≤ i → i < b + k → 0 < get_or cs i 0) → spare k b cs ≡ []
   spare_none zero b all = refl
   spare_none (suc k) b all = rw (lt-ltb 0 (get_or cs b 0) (all b (omega arith) (omega arith))) (spare_none k (suc b) (λ i l m. all i (omega arith) (omega arith)))
 
@@ -42,3 +42,15 @@ module _ (cs : List ℕ) where
     pub found_none : AllWithin (λ c. 0 < c) (drop next cs) 0 (length (drop next cs)) → free_blocks cs ≡ xs
     found_none h =
         these ∙ ap (λ r. xs ++ r) (spare_none (length cs - next) next (λ i l m. used (length (drop next cs)) h i l (omega (arith, length-drop next cs)))) ∙ append-nil xs
+
+  -- a search for a free block from `next` on came to `at`
+  module _ (xs : List ℕ) (next at : ℕ) (over : (i : ℕ) → next ≤ i → i < at → 0 < get_or cs i 0) (these : free_blocks cs ≡ xs ++ spare (length cs - next) next cs) where
+    pub found_at : next ≤ at → at < length cs → get_or cs at 0 ≡ 0 → free_blocks cs ≡ (xs ++ at ∷ []) ++ spare (length cs - (at + 1)) (at + 1) cs
+    found_at on within here =
+        these
+        ∙ ap (λ (r : List ℕ). xs ++ r) (spare_first (length cs - next) next (at - next) at (omega (arith, on)) (omega (arith, on, within)) over here
+        ∙ ap (λ (n : ℕ). at ∷ spare n (at + 1) cs) (omega (arith, on, within))) ∙ sym (append_assoc xs (at ∷ []) (spare (length cs - (at + 1)) (at + 1) cs))
+
+    pub found_end : length cs ≤ at → free_blocks cs ≡ xs
+    found_end past =
+        these ∙ ap (λ (r : List ℕ). xs ++ r) (spare_none (length cs - next) next (λ i l m. over i l (omega (arith, past, l, m)))) ∙ append-nil xs

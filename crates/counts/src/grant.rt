@@ -1,6 +1,7 @@
 // Free blocks set aside for one call.
 ghost use Rattle.std.specs.Prelude.{◌≡◌, ◌≤◌, [], ◌∷◌, length, drop, vec_len};
 ghost use Rattle.counts.specs.Grants.{lowest_free};
+ghost use Rattle.counts.specs.Hint.{Taken};
 
 use super::Counts;
 use arrayvec::ArrayVec;
@@ -22,16 +23,19 @@ impl Model for Grant {
 }
 
 impl Grant {
-    // The n lowest free blocks, if there are so many.
-    pub fn lowest(counts: &Counts, n: usize) -> Option<Grant>
-        requires { (n ≤ 11) × (vec_len counts.now.of ≤ 4096) }
+    // The n lowest free blocks, if there are so many, and none below the hint.
+    pub fn lowest(counts: &Counts, hint: usize, n: usize) -> Option<Grant>
+        requires few { (n ≤ 11) × (vec_len counts.now.of ≤ 4096) }
+        requires hint { Taken hint counts.now.of.items }
         ensures { result ≡ lowest_free n counts.now.of.items }
     {
         let mut blocks = ArrayVec::new();
-        let mut next = 2;
+        let mut next = hint;
         for _ in 0..n {
-            let rest = counts.of.get(next..)?;
-            let block = next + rest.iter().position(|count| *count == 0)?;
+            let block = counts.next_free(next);
+            if block >= counts.of.len() {
+                return None;
+            }
             blocks.push(block as u32);
             next = block + 1;
         }

@@ -3,6 +3,7 @@
 
 ghost use Rattle.std.specs.Prelude.{◌≡◌, ℕ, ◌+◌, ◌-◌, ◌*◌, ◌<◌, ◌≤◌, ◌==◌, length, replicate, Some, vec_len, slice_index, slice_set};
 ghost use Rattle.counts.specs.Counts.{AliveIsReached, add_all, opened, Roomy};
+ghost use Rattle.counts.specs.Hint.{Taken, TakenBut};
 ghost use Rattle.counts.specs.Keeping.{retained, RetainKeeps, OpenKeeps, LinkKeeps, CountsFit};
 ghost use Rattle.page.specs.Block.{kids_of};
 ghost use Rattle.page.specs.View.{view};
@@ -94,5 +95,55 @@ impl Counts {
         self.add_kids(page);
         let count = self.get(block);
         self.set(block, count - 1);
+    }
+
+    // The first tree block from a hint on that nothing refers to, as the next hint.
+    fn taken(&self, hint: usize) -> usize
+        requires { Taken hint self.now.of.items }
+        ensures { Taken result self.now.of.items }
+    {
+        self.next_free(hint)
+    }
+
+    // The lowest of sixteen counts.
+    fn lowest_of(&self, from: usize) -> u16
+        requires { from + 16 ≤ vec_len self.now.of }
+        ensures { 0 < result → (i : ℕ) → from ≤ i → i < from + 16 → 0 < slice_index self.now.of.items i }
+    {
+        let mut low = u16::MAX;
+        for i in from..from + 16 {
+            low = low.min(self.of[i]);
+        }
+        low
+    }
+
+    // The first block from a place on that nothing refers to, or past the last one. Sixteen counts are looked at in a step.
+    fn next_free(&self, from: usize) -> usize
+        ensures on { from ≤ result }
+        ensures over { (i : ℕ) → from ≤ i → i < result → 0 < slice_index self.now.of.items i }
+        ensures free { result < vec_len self.now.of → slice_index self.now.of.items result ≡ 0 }
+    {
+        let len = self.of.len();
+        let mut next = from;
+        while next < len && len - next >= 16 && self.lowest_of(next) > 0 {
+            next += 16;
+        }
+        while next < len && self.of[next] > 0 {
+            next += 1;
+        }
+        next
+    }
+
+    // The hint, after a block lost a reference: the block itself, if that was the last and the block lies below.
+    fn freed(&self, hint: usize, block: u32) -> usize
+        requires within { block < vec_len self.now.of }
+        requires others { TakenBut block hint self.now.of.items }
+        ensures { Taken result self.now.of.items }
+    {
+        if self.get(block) == 0 {
+            hint.min((block as usize).max(2))
+        } else {
+            hint
+        }
     }
 }

@@ -10,6 +10,7 @@ ghost use Rattle.counts.specs.Moves.{opening, linking, step, Shaped, Owned, Held
 
 use super::{Counts, Grant};
 use device::{Device, DeviceFault, LayerMark};
+use page::glance::PageWords;
 use page::io::{read_block, write_block};
 use page::page::Page;
 use page::stored::Stored;
@@ -20,6 +21,8 @@ use std::marker::Model;
 pub struct Store<D: Device> {
     device: D,
     counts: Counts,
+    // No tree block below this one is free.
+    hint: usize,
 }
 
 // What the device means, and the counts.
@@ -34,7 +37,9 @@ impl<D: Device> Model for Store<D> {
 
     ghost view = { λ s. (D.Device.meaning s.device, s.counts.of.items) };
 
-    ghost invariant = { λ s. Wide (D.Device.meaning s.device) × (length s.counts.of.items ≡ blocks_of (D.Device.meaning s.device)) };
+    ghost use Rattle.counts.specs.Hint.{Taken};
+
+    ghost invariant = { λ s. Wide (D.Device.meaning s.device) × ((length s.counts.of.items ≡ blocks_of (D.Device.meaning s.device)) × Taken s.hint s.counts.of.items) };
 }
 
 impl<D: Device> Store<D> {
@@ -44,14 +49,22 @@ impl<D: Device> Store<D> {
         requires sized { length counts.of.items ≡ blocks_of (D.Device.meaning device) }
         ensures { result ≡ (D.Device.meaning device, counts.of.items) }
     {
-        Store { device, counts }
+        Store {
+            device,
+            counts,
+            hint: 2,
+        }
     }
 
     // The device and the counts.
     pub fn into_parts(self) -> (D, Counts)
         ensures { (D.Device.meaning result.0, result.1.of.items) ≡ self }
     {
-        let Store { device, counts } = self;
+        let Store {
+            device,
+            counts,
+            hint: _,
+        } = self;
         (device, counts)
     }
 
@@ -76,7 +89,7 @@ impl<D: Device> Store<D> {
         ensures these { result ≡ lowest_free n self.now.1 }
         ensures shape { Shaped self.now }
     {
-        Grant::lowest(&self.counts, n)
+        Grant::lowest(&self.counts, self.hint, n)
     }
 
     // What a block holds, if it holds a value.
@@ -115,13 +128,24 @@ impl<D: Device> Store<D> {
         self.counts.retain(block)
     }
 
+    // Reads the page of a block that holds one, over what was read before.
+    pub fn load(&mut self, block: u32, page: &mut PageWords)
+        requires { is_some (block_at self.old.0 block) ≡ true }
+        ensures kept { self.new ≡ self.old }
+        ensures page { block_at self.old.0 block ≡ Some page.new }
+    {
+        page.load(&mut self.device, block);
+    }
+
     // The page of a block that holds one.
     pub fn read_page(&mut self, block: u32) -> Page
         requires { is_some (block_at self.old.0 block) ≡ true }
         ensures kept { self.new ≡ self.old }
         ensures page { block_at self.old.0 block ≡ Some (view result) }
     {
-        self.read(block).unwrap().unwrap()
+        let mut words = PageWords::empty();
+        self.load(block, &mut words);
+        words.to_page()
     }
 
     // Gives up a reference to a block for references to its children.
@@ -144,6 +168,7 @@ impl<D: Device> Store<D> {
         ensures shape { Shaped self.old }
     {
         self.counts.open(block, page);
+        self.hint = self.counts.freed(self.hint, block);
     }
 
     // Writes a page to a block that nothing refers to; the references to its children go over into it, and one to it is held.
@@ -156,6 +181,7 @@ impl<D: Device> Store<D> {
     {
         self.write(block, page);
         self.counts.set(block, 1);
+        self.hint = self.counts.taken(self.hint);
     }
 
     // Gives up a reference to a block; where it was the last, those to its children too.
@@ -167,6 +193,7 @@ impl<D: Device> Store<D> {
     {
         let count = self.counts.get(block);
         self.counts.set(block, count - 1);
+        self.hint = self.counts.freed(self.hint, block);
         if count == 1 && level > 0 {
             let page = self.read_page(block);
             for entry in page.entries.iter() {
