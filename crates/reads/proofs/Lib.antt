@@ -8,3 +8,5 @@ pub mod Leaves
 pub mod Totals
 pub mod Written
 pub mod Planted
+pub mod Down
+pub mod Blocks

@@ -3,28 +3,30 @@ ghost use Rattle.std.specs.Prelude.{◌≡◌, min, length, map, take, drop};
 ghost use Rattle.device.specs.Meaning.{current_at};
 ghost use Rattle.tree.specs.Node.{map_e};
 ghost use Rattle.model.specs.Plain.{from};
-ghost use Rattle.table.specs.Rows.{pair_of, angle_of};
+ghost use Rattle.table.specs.Rows.{angle_of};
 ghost use Rattle.page.specs.View.{root_pair};
-ghost use Rattle.model.specs.TreeBlocks.{GoodOn};
+ghost use Rattle.model.specs.TreeBlocks.{Each, GoodOn};
 ghost use Rattle.reads.specs.Rows.{rows_on};
-ghost use Rattle.reads.specs.Sound.{SoundAt, rows_at};
+ghost use Rattle.reads.specs.Sound.{Valid, SoundAt, rows_at};
 ghost use Rattle.reads.specs.Lists.{row_in, due, written};
 
-use super::leaf::rows_of;
 use counts::Store;
 use device::Device;
+use page::glance::PageWords;
 use page::roots::Root;
 use table::{Pair, Row};
 
-// Writes the rows of a speed or above to a slice, as many as it takes, and answers how many.
-fn list_rows(rows: &[Row], speed: u32, out: &mut [Pair]) -> usize
-    ensures count { result ≡ min (length out.old) (length (due speed (map pair_of rows.now))) }
-    ensures listed { out.new ≡ written (due speed (map pair_of rows.now)) out.old }
+// Writes the rows of a leaf from a speed on to a slice, as many as it takes, and answers how many.
+fn list_leaf(leaf: &PageWords, speed: u32, out: &mut [Pair]) -> usize
+    requires { Each Valid leaf.now.entries }
+    ensures count { result ≡ min (length out.old) (length (due speed (map_e angle_of leaf.now.entries))) }
+    ensures listed { out.new ≡ written (due speed (map_e angle_of leaf.now.entries)) out.old }
 {
     let mut n = 0;
-    for row in rows {
+    for i in 0..leaf.len() {
+        let row = Row::from_stored(leaf.speed(i), leaf.value(i));
         if row.speed >= speed && n < out.len() {
-            out[n] = Pair::from(*row);
+            out[n] = Pair::from(row);
             n += 1;
         }
     }
@@ -41,14 +43,14 @@ fn list_block<D: Device>(store: &mut Store<D>, block: u32, speed: u32, out: &mut
     if out.is_empty() {
         return 0;
     }
-    let page = store.read_page(block);
-    if page.level == 0 {
-        return list_rows(&rows_of(&page), speed, out);
+    let mut page = PageWords::empty();
+    store.load(block, &mut page);
+    if page.level() == 0 {
+        return list_leaf(&page, speed, out);
     }
-    let first = page.covering(speed);
     let mut n = 0;
-    for entry in page.entries[first..].iter() {
-        n += list_block(store, entry.value, speed, &mut out[n..]);
+    for i in page.covering(speed)..page.len() {
+        n += list_block(store, page.value(i), speed, &mut out[n..]);
     }
     n
 }

@@ -1,7 +1,7 @@
 // The angle of a row, and the angle at a speed.
-ghost use Rattle.std.specs.Prelude.{◌≡◌, map};
+ghost use Rattle.std.specs.Prelude.{◌≡◌};
 ghost use Rattle.device.specs.Meaning.{current_at};
-ghost use Rattle.table.specs.Rows.{pair_of, angle_of};
+ghost use Rattle.table.specs.Rows.{angle_of};
 ghost use Rattle.table.specs.Angles.{angle_at};
 ghost use Rattle.table.specs.Around.{StandsAround};
 ghost use Rattle.tree.specs.Node.{map_e};
@@ -15,16 +15,9 @@ use super::descent::descend;
 use super::leaf::rows_of;
 use counts::Store;
 use device::Device;
+use page::glance::PageWords;
 use page::roots::Root;
-use table::{Around, Row, angle_by};
-
-// The angle of the row of a speed, if there is one.
-fn look_in(rows: &[Row], speed: u32) -> Option<i32>
-    ensures { result ≡ look speed (map pair_of rows.now) }
-{
-    let row = rows.iter().find(|row| speed == row.speed)?;
-    Some(row.angle)
-}
+use table::{Around, angle_by, stored_angle};
 
 // The angle of the row of a speed, if there is one. Reads one block a level.
 pub fn get<D: Device>(store: &mut Store<D>, root: Root, speed: u32) -> Option<i32>
@@ -32,8 +25,14 @@ pub fn get<D: Device>(store: &mut Store<D>, root: Root, speed: u32) -> Option<i3
     ensures kept { store.new ≡ store.old }
     ensures answer { result ≡ look speed (rows_on store.old.0 (root_pair root)) }
 {
-    let place = descend(store, root.block, speed);
-    look_in(&rows_of(&place.leaf), speed)
+    let mut page = PageWords::empty();
+    store.load(root.block, &mut page);
+    while page.level() > 0 {
+        let child = page.value(page.covering(speed));
+        store.load(child, &mut page);
+    }
+    let payload = page.find(speed)?;
+    Some(stored_angle(payload))
 }
 
 // Of the rows of a block, if there is one, that are all on one side of a speed: the row that is nearest to it.

@@ -1,26 +1,30 @@
 // Summaries, joined block by block.
-ghost use Rattle.std.specs.Prelude.{◌≡◌, map};
+ghost use Rattle.std.specs.Prelude.{◌≡◌};
 ghost use Rattle.device.specs.Meaning.{current_at};
 ghost use Rattle.tree.specs.Node.{map_e};
-ghost use Rattle.table.specs.Rows.{pair_of, angle_of};
+ghost use Rattle.table.specs.Rows.{angle_of};
 ghost use Rattle.page.specs.View.{root_pair};
-ghost use Rattle.model.specs.TreeBlocks.{GoodOn};
+ghost use Rattle.model.specs.TreeBlocks.{Each, GoodOn};
 ghost use Rattle.reads.specs.Rows.{rows_on};
 ghost use Rattle.reads.specs.Summary.{summary_of};
-ghost use Rattle.reads.specs.Sound.{SoundAt, rows_at};
+ghost use Rattle.reads.specs.Sound.{Valid, SoundAt, rows_at};
 
-use super::leaf::rows_of;
 use counts::Store;
 use device::Device;
+use page::glance::PageWords;
 use page::roots::Root;
 use table::{Row, Summary};
 
-// The summary of rows.
-fn sum_rows<S: Summary>(rows: &[Row]) -> S
-    ensures { result ≡ summary_of S.summing (map pair_of rows.now) }
+// The summary of the rows of a leaf.
+fn sum_leaf<S: Summary>(leaf: &PageWords) -> S
+    requires { Each Valid leaf.now.entries }
+    ensures { result ≡ summary_of S.summing (map_e angle_of leaf.now.entries) }
 {
-    rows.iter()
-        .fold(S::empty(), |sum, row| sum.join(S::of_row(*row)))
+    let mut sum = S::empty();
+    for i in 0..leaf.len() {
+        sum = sum.join(S::of_row(Row::from_stored(leaf.speed(i), leaf.value(i))));
+    }
+    sum
 }
 
 // The summary of the rows of a block and all below it.
@@ -29,13 +33,14 @@ fn sum_block<D: Device, S: Summary>(store: &mut Store<D>, block: u32) -> S
     ensures kept { store.new ≡ store.old }
     ensures answer { result ≡ summary_of S.summing (map_e angle_of (rows_at (current_at store.old.0) block)) }
 {
-    let page = store.read_page(block);
-    if page.level == 0 {
-        return sum_rows(&rows_of(&page));
+    let mut page = PageWords::empty();
+    store.load(block, &mut page);
+    if page.level() == 0 {
+        return sum_leaf(&page);
     }
     let mut sum = S::empty();
-    for entry in page.entries.iter() {
-        sum = sum.join(sum_block(store, entry.value));
+    for i in 0..page.len() {
+        sum = sum.join(sum_block(store, page.value(i)));
     }
     sum
 }

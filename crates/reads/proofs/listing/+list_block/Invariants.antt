@@ -1,7 +1,6 @@
-use Rattle.std.proofs.Common.{◌≡◌, min, map, length, take}
+use Rattle.std.proofs.Common.{◌≡◌, min, length, take}
 use Rattle.device.specs.Meaning.{current_at}
 use Rattle.page.specs.Block.{block_at, level_of}
-use Rattle.page.specs.View.{pair}
 use Rattle.tree.specs.Node.{map_e}
 use Rattle.table.specs.Rows.{angle_of}
 use Rattle.reads.specs.Sound.{rows_in}
@@ -12,10 +11,9 @@ use Rattle.reads.proofs.listing.+list_block.Given as goal
 abbrev pub decreases-list_block : goal.decreases-list_block
 decreases-list_block g l = level_of (block_at l.store.now.0 l.block)
 
-abbrev pub invariant-loop-entry : goal.invariant-loop-entry
-invariant-loop-entry g l =
-    let m = l.fn.store.0 in
-    let all = due l.speed (map_e angle_of (rows_in (current_at m) (level_of (block_at m l.block)) (map pair (take l.entry-index l.entry-items)))) in
+abbrev pub invariant-loop-i : goal.invariant-loop-i
+invariant-loop-i g l =
+    let all = due l.speed (map_e angle_of (rows_in (current_at l.fn.store.0) l.page.level (take l.i l.page.entries))) in
     record {
       kept : l.store ≡ l.fn.store;
       count : l.n ≡ min (length l.fn.out) (length all);

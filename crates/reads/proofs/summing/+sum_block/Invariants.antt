@@ -1,22 +1,18 @@
-use Rattle.std.proofs.Common.{◌≡◌, map, take}
+use Rattle.std.proofs.Common.{◌≡◌, take}
 use Rattle.device.specs.Meaning.{current_at}
 use Rattle.page.specs.Block.{block_at, level_of}
-use Rattle.page.specs.View.{pair}
 use Rattle.tree.specs.Node.{map_e}
-use Rattle.reads.specs.Summary.{summary_of}
 use Rattle.table.specs.Rows.{angle_of}
 use Rattle.reads.specs.Sound.{rows_in}
+use Rattle.reads.specs.Summary.{summary_of}
 use Rattle.reads.proofs.summing.+sum_block.Given as goal
 
 -- the level of the block
 abbrev pub decreases-sum_block : goal.decreases-sum_block
 decreases-sum_block g l = level_of (block_at l.store.now.0 l.block)
 
-abbrev pub invariant-loop-entry : goal.invariant-loop-entry
-invariant-loop-entry g l =
-    let s = g.S.Summary in
-    let m = l.fn.store.0 in
-    record {
-      kept : l.store ≡ l.fn.store;
-      sum : l.sum ≡ summary_of s.summing (map_e angle_of (rows_in (current_at m) (level_of (block_at m l.block)) (map pair (take l.entry-index l.entry-items))));
-    }
+abbrev pub invariant-loop-i : goal.invariant-loop-i
+invariant-loop-i g l = record {
+  kept : l.store ≡ l.fn.store;
+  sum : l.sum ≡ summary_of g.S.Summary.summing (map_e angle_of (rows_in (current_at l.fn.store.0) l.page.level (take l.i l.page.entries)));
+}
