@@ -1,12 +1,12 @@
 -- What the device in memory does to its slices, and so to its meaning.
-use Rattle.std.proofs.Common.{◌≡◌, ℕ, zero, suc, ◌+◌, ◌-◌, ◌*◌, ◌^◌, ◌<◌, ◌≤◌, min, List, map, length, get_or, take, drop, set, replicate, Ok, sym, refl, ap, ◌∙◌, subst, inl, inr, ⊎_elim, arith}
+use Rattle.std.proofs.Common.{◌≡◌, ℕ, zero, suc, ◌+◌, ◌-◌, ◌*◌, ◌^◌, ◌<◌, ◌≤◌, min, List, [], ◌∷◌, ◌++◌, map, length, get_or, take, drop, set, replicate, Ok, sym, refl, ap, ◌∙◌, subst, inl, inr, ⊎_elim, arith}
 use borrow.Rule.Slice.PartMut.{put_mid}
 use Rattle.std.specs.List.{range_with_len, AllByRecursion}
-use Rattle.std.proofs.lemmas.List.{length-set, length-append, length-take-le, length-drop, get_or-set_same, get_or-set_other, drop-take, get_or-replicate, length-replicate}
+use Rattle.std.proofs.lemmas.List.{length-set, length-append, length-take-le, length-drop, get_or-set_same, get_or-set_other, drop-take, get_or-replicate, length-replicate, take-append-drop, drop-drop, ext_get_or}
 use Rattle.std.proofs.ByRecursion.{All-append, All-take, All-drop}
 use Rattle.std.proofs.lemmas.Slice.{between-put_mid, drop-put_mid, take-put_mid_below}
 use Rattle.std.proofs.lemmas.List.FromFn.{length-map-range_with_len}
-use Rattle.std.proofs.lemmas.Bool.{cases_eq, cases_order}
+use Rattle.std.proofs.lemmas.Bool.{cases_eq, cases_lt, cases_order}
 use Rattle.device.specs.Meaning.{Meaning, Cell, Limits, words, admitted, reading, held, written, written_cell, flushed, flushed_cell, no_cell, own, endless, Cut, CutCell, CutTo}
 use Rattle.device.specs.declared.Layer.TheVariants.{Memory}
 use Rattle.device.proofs.Calls.{let_in, reading_at}
@@ -152,3 +152,89 @@ module _ (p : Parts) (left : List ℕ) (s : Sound p) (l : Leaves p left) where
 
 pub opened_cut : (left : List ℕ) (n w : ℕ) → Outlasts left n w (cleared left n w)
 opened_cut left n w p e f s l = subst (λ k. Cut (memory p) (cleared left k w)) e (subst (λ v. Cut (memory p) (cleared left (length p.marks) v)) f (cut_cleared p left s l))
+
+-- Persisting block by block: the blocks before i are done.
+pub record Persisting (cur per marks : List ℕ) (w n i : ℕ) : Type 0 where
+  pub cur_len : length cur ≡ n * w
+  pub per_len : length per ≡ n * w
+  pub count : length marks ≡ n
+  pub clean : (b : ℕ) → b < n → get_or marks b 0 ≡ 0 → block_of w per b ≡ block_of w cur b
+  pub done : (b : ℕ) → b < i → get_or marks b 0 ≡ 0
+
+pub persist_start : (p : Parts) → Sound p → Persisting p.current p.persisted p.marks p.width (length p.marks) 0
+persist_start p s = record {
+  cur_len = s.shaped.cur_len;
+  per_len = s.shaped.per_len;
+  count = refl;
+  clean = s.clean;
+  done = λ b h. absurd (omega (arith, h));
+}
+
+module _ (cur per marks : List ℕ) (w n i : ℕ) (h : i < n) (p : Persisting cur per marks w n i) where
+  pub persist_skip : get_or marks i 0 ≡ 0 → Persisting cur per marks w n (i + 1)
+  persist_skip z = record {
+    cur_len = p.cur_len;
+    per_len = p.per_len;
+    count = p.count;
+    clean = p.clean;
+    done = λ b l. ⊎_elim (λ (e : b ≡ i). subst (λ (x : ℕ). get_or marks x 0 ≡ 0) (sym e) z) (λ ne. p.done b (omega (arith, l, ne))) (cases_eq b i);
+  }
+
+  pub persist_over : (k : ℕ) → ((b : ℕ) → i ≤ b → b < i + k → get_or marks b 0 ≡ 0) → Persisting cur per marks w n (i + k)
+  persist_over k z = record {
+    cur_len = p.cur_len;
+    per_len = p.per_len;
+    count = p.count;
+    clean = p.clean;
+    done = λ b l. ⊎_elim (λ (e : b < i). p.done b e) (λ (e : i ≤ b). z b e l) (cases_lt b i);
+  }
+
+  pub persist_step : (k : ℕ) (ys : List ℕ) → k ≡ w → ys ≡ block_of w cur i → Persisting cur (put_mid (i * w) k per ys) (set marks i 0) w n (i + 1)
+  persist_step k ys count e =
+      let size : length ys ≡ w = ap length e ∙ block_length cur w n p.cur_len i h in
+      let there : i < length marks = omega (arith, h, p.count) in
+      record {
+        cur_len = p.cur_len;
+        per_len = put_length per w n p.per_len i k ys h size count;
+        count = length-set marks i 0 ∙ p.count;
+        clean = λ b l z. ⊎_elim
+            (λ (q : b ≡ i). subst (λ (x : ℕ). block_of w (put_mid (i * w) k per ys) x ≡ block_of w cur x) (sym q) (put_same per w n p.per_len i k ys h size count ∙ e))
+            (λ (ne : b ≡ i → ⊥). put_other per w n p.per_len i k ys h size count b l ne ∙ p.clean b l (sym (get_or-set_other marks i b 0 0 ne) ∙ z))
+            (cases_eq b i);
+        done = λ b l. ⊎_elim
+            (λ (q : b ≡ i). subst (λ (x : ℕ). get_or (set marks i 0) x 0 ≡ 0) (sym q) (get_or-set_same marks i 0 0 there))
+            (λ (ne : b ≡ i → ⊥). get_or-set_other marks i b 0 0 ne ∙ p.done b (omega (arith, l, ne)))
+            (cases_eq b i);
+      }
+
+-- words are the same where they are block by block
+by_blocks : (v n : ℕ) (xs ys : List ℕ) → length xs ≡ n * v → length ys ≡ n * v → ((b : ℕ) → b < n → block_of v xs b ≡ block_of v ys b) → xs ≡ ys
+by_blocks v zero xs ys k l same = none xs (k ∙ zero_times) ∙ sym (none ys (l ∙ zero_times))
+  where
+    zero_times : 0 * v ≡ 0
+    zero_times = omega arith
+
+    none : (zs : List ℕ) → length zs ≡ 0 → zs ≡ []
+    none [] e = refl
+    none (z ∷ zs) e = absurd (omega (arith, e))
+by_blocks v (suc n) xs ys k l same =
+    sym (take-append-drop v xs)
+    ∙ ap (λ (a : List ℕ). a ++ drop v xs) (sym (front xs) ∙ same 0 (omega arith) ∙ front ys)
+    ∙ ap (λ (b : List ℕ). take v ys ++ b)
+    (by_blocks v n (drop v xs) (drop v ys) (simp length-drop (omega (arith, k))) (simp length-drop (omega (arith, l)))
+    (λ b h. later xs b ∙ same (suc b) (omega (arith, h)) ∙ sym (later ys b)))
+    ∙ take-append-drop v ys
+  where
+    front : (zs : List ℕ) → block_of v zs 0 ≡ take v zs
+    front zs = let e : 0 * v ≡ 0 = omega arith in ap (λ (m : ℕ). take v (drop m zs)) e
+
+    later : (zs : List ℕ) (b : ℕ) → block_of v (drop v zs) b ≡ block_of v zs (suc b)
+    later zs b = let e : v + b * v ≡ suc b * v = omega arith in ap (take v) (drop-drop (b * v) v zs ∙ ap (λ (m : ℕ). drop m zs) e)
+
+-- all blocks are done
+module _ (cur per marks : List ℕ) (w n : ℕ) (p : Persisting cur per marks w n n) where
+  pub persist_end : per ≡ cur
+  persist_end = by_blocks w n per cur p.per_len p.cur_len (λ b h. p.clean b h (p.done b h))
+
+  pub persist_marks : marks ≡ replicate n 0
+  persist_marks = ext_get_or 0 marks (replicate n 0) (p.count ∙ sym (length-replicate n 0)) (λ k h. p.done k (omega (arith, h, p.count)) ∙ sym (get_or-replicate n k 0 0 (omega (arith, h, p.count))))

@@ -2,7 +2,7 @@
 // Only the persisted words outlast a cut of the power.
 #![tactic(auto)]
 
-ghost use Rattle.std.specs.Prelude.{◌≡◌, ◌<◌, length, replicate, IfOk, MatchBool, MatchResult};
+ghost use Rattle.std.specs.Prelude.{◌≡◌, ℕ, ◌+◌, ◌<◌, ◌≤◌, length, replicate, slice_index, IfOk, MatchBool, MatchResult};
 ghost use Rattle.std.specs.List.{AllByRecursion};
 ghost use Rattle.device.specs.declared.Layer.{Layer};
 ghost use Rattle.device.specs.Meaning.{written};
@@ -61,13 +61,13 @@ impl<'a> Slices<'a> {
     }
 
     // Makes the current words the persisted ones, and marks no block.
-    fn persist(&mut self)
-        requires { length self.old.persisted.now ≡ length self.old.current.now }
+    fn persist(&mut self, width: usize)
+        requires { Sound (parts_of self.old width) }
         ensures current { self.new.current.now ≡ self.old.current.now }
         ensures persisted { self.new.persisted.now ≡ self.old.current.now }
         ensures marks { self.new.marks.now ≡ replicate (length self.old.marks.now) 0 }
     {
-        settle(self.current, self.persisted, self.marks);
+        settle_marked(self.current, self.persisted, self.marks, width);
     }
 }
 
@@ -81,6 +81,41 @@ fn settle(from: &mut [u32], to: &mut [u32], marks: &mut [u8])
 {
     to.copy_from_slice(from);
     marks.fill(0);
+}
+
+// The same where the contents differ in marked blocks alone: only these are copied.
+fn settle_marked(from: &mut [u32], to: &mut [u32], marks: &mut [u8], width: usize)
+    requires { Sound (parts from.old to.old marks.old width) }
+    ensures from { from.new ≡ from.old }
+    ensures to { to.new ≡ from.old }
+    ensures marks { marks.new ≡ replicate (length marks.old) 0 }
+{
+    let blocks = marks.len();
+    let mut block = 0;
+    while block < blocks {
+        if blocks - block >= 16 && highest_of(marks, block) == 0 {
+            block += 16;
+        } else {
+            if marks[block] > 0 {
+                let start = block * width;
+                to[start..start + width].copy_from_slice(&from[start..start + width]);
+                marks[block] = 0;
+            }
+            block += 1;
+        }
+    }
+}
+
+// The highest of sixteen marks.
+fn highest_of(marks: &[u8], from: usize) -> u8
+    requires { from + 16 ≤ length marks.now }
+    ensures { result ≡ 0 → (i : ℕ) → from ≤ i → i < from + 16 → slice_index marks.now i ≡ 0 }
+{
+    let mut high = 0;
+    for i in from..from + 16 {
+        high = high.max(marks[i]);
+    }
+    high
 }
 
 impl<'a> Memory<'a> {
@@ -164,7 +199,7 @@ impl<'a> Device for Memory<'a> {
     }
 
     fn flush(&mut self) {
-        self.slices.persist();
+        self.slices.persist(self.width);
     }
 }
 
