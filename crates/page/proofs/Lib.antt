@@ -4,3 +4,4 @@ pub mod Exact
 pub mod Slots
 pub mod Editing
 pub mod Seen
+pub mod Judged

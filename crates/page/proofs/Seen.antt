@@ -1,9 +1,10 @@
 -- Words that are read as a tree block, entry by entry.
-use Rattle.std.proofs.Common.{◌≡◌, ℕ, zero, suc, ◌+◌, ◌*◌, ◌/◌, ◌%◌, ◌<◌, ◌≤◌, Bool, true, false, cond, ◌&&◌, ltb, leb, eqb, List, [], ◌∷◌, ◌++◌, length, get_or, take, drop, is_some, Some, None, Ok, Option, sym, refl, ap, ◌∙◌, ap₂, subst, ⊎_elim, arith}
+use Rattle.std.proofs.Common.{◌≡◌, ℕ, zero, suc, ◌+◌, ◌*◌, ◌/◌, ◌%◌, ◌<◌, ◌≤◌, Bool, true, false, cond, ◌&&◌, ltb, leb, eqb, List, [], ◌∷◌, ◌++◌, length, get_or, take, drop, is_some, Some, None, Ok, Err, Option, Result, sym, refl, ap, ◌∙◌, ap₂, subst, ⊎_elim, arith}
 use Rattle.std.proofs.lemmas.List.{get_or-drop, get_or_past, length-take-le, length-append}
 use Rattle.std.proofs.lemmas.Bool.{cases_lt, false≢true, and_parts, leb-true, ltb-true, eq-eqb, ne_eqb}
+use Rattle.device.specs.declared.DeviceFault.{DeviceFault}
 use Rattle.device.specs.declared.Layer.{Layer}
-use Rattle.device.specs.Meaning.{Meaning, Content, Cell, words, damaged, current_at, blocks_of, no_cell, reading, held}
+use Rattle.device.specs.Meaning.{Meaning, Content, Cell, words, damaged, current_at, blocks_of, no_cell, reading, held, answered, filled}
 use Rattle.device.proofs.Calls.{reading_at}
 use Rattle.page.specs.Block.{Block, pairs, read, encode, same, fits, decode, block_in, block_at}
 use Rattle.page.specs.Readable.{Readable}
@@ -65,6 +66,11 @@ decoded ws n h =
       low = omega (arith, ltb-true (read ws).level 5 p.1);
     }
 
+-- what was read into a buffer, where the answer was good
+pub read_ok : (r : Result (List ℕ) DeviceFault) (old out : List ℕ) → answered r ≡ Ok tt → out ≡ filled r old → r ≡ Ok out
+read_ok (Ok ws) old out e q = ap Ok (sym q)
+read_ok (Err f) old out e q = absurd (let z : ◌≡◌ {A = ℕ} 0 1 = cc in omega arith)
+
 -- What is read of a block that holds a page.
 held_words : (k : Content) → is_some (block_in k) ≡ true → (ws : List ℕ) × (k ≡ words ws)
 held_words (words ws) h = (ws, refl)
@@ -122,3 +128,13 @@ front_readable l m b n x out zs e h t =
 pub front_read : (l : Layer) (m : Meaning) (b n : ℕ) (x : Standing l m b n) (out zs : List ℕ) → out ≡ x.ws → 32 ≤ length out → block_at m b ≡ Some (read (out ++ zs))
 front_read l m b n x out zs e h =
     x.holds ∙ ap Some (sym (read_front out zs h (subst (λ ws. get_or ws 0 0 % 256 ≤ 15) (sym e) x.decoded.few) ∙ ap read e ∙ x.decoded.is))
+
+-- Whether the words in the front of the buffer hold a block, and which.
+pub front_tried : (ws zs : List ℕ) (t : Bool) → 32 ≤ length ws → t ≡ is_some (decode ws) → decode ws ≡ cond t (Some (read (ws ++ zs))) None
+front_tried ws zs t h e = go (decode ws) refl e
+  where
+    go : (o : Option Block) → decode ws ≡ o → t ≡ is_some o → decode ws ≡ cond t (Some (read (ws ++ zs))) None
+    go None d k = d ∙ sym (ap (λ (b : Bool). cond b (Some (read (ws ++ zs))) None) k)
+    go (Some n) d k =
+        let x = decoded ws n d in
+        d ∙ ap Some (sym (read_front ws zs h x.few ∙ x.is)) ∙ sym (ap (λ (b : Bool). cond b (Some (read (ws ++ zs))) None) k)

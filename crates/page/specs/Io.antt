@@ -1,18 +1,12 @@
--- What a block holds, as words; and blocks read and written on a device.
-use Rattle.std.specs.Prelude.{◌≡◌, ℕ, ◌≤◌, cond, List, length, Some, None, Ok, Err, Option, Result, MatchResult}
+-- Blocks read and written on a device.
+use Rattle.std.specs.Prelude.{◌≡◌, ℕ, ◌≤◌, List, Ok, Err, Result, MatchResult}
 use Rattle.device.specs.declared.DeviceFault.{DeviceFault}
 use Rattle.device.specs.Meaning.{Meaning}
-use Rattle.page.specs.Block.{same}
-
--- the candidate, if the words are its own
-abbrev pub confirmed : {T : Type 0} → (ℕ → T → List ℕ) → List ℕ → Option T → Option T
-confirmed words_of ws None = None
-confirmed words_of ws (Some x) = cond (same ws (words_of (length ws) x)) (Some x) None
 
 -- a width that a volume uses
 abbrev pub Wide : Meaning → Type 0
 Wide m = (32 ≤ m.width) × (m.width ≤ 40)
 
--- what was read is what the words of the block hold, or the device's refusal; `holds` says what words hold
-abbrev pub ReadAs : {T : Type 0} → (List ℕ → Option T → Type 0) → Result (List ℕ) DeviceFault → Result (Option T) DeviceFault → Type 0
-ReadAs holds read r = MatchResult r (λ o. (ws : List ℕ) × (read ≡ Ok ws) × holds ws o) (λ e. read ≡ Err e)
+-- what was read of a block's words, or the device's refusal; `holds` says what is read of words
+abbrev pub ReadAs : {T : Type 0} → (List ℕ → T → Type 0) → Result (List ℕ) DeviceFault → Result T DeviceFault → Type 0
+ReadAs holds read r = MatchResult r (λ x. (ws : List ℕ) × (read ≡ Ok ws) × holds ws x) (λ e. read ≡ Err e)

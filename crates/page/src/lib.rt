@@ -7,7 +7,7 @@ ghost use Rattle.page.specs.Slot.{FormsExact, SlotsExact};
 
 mod codec;
 mod edits;
-pub mod glance;
+pub mod page_words;
 pub mod io;
 pub mod page;
 pub mod roots;
@@ -27,10 +27,10 @@ pub fn slots_are_exact()
 
 #[cfg(test)]
 mod tests {
+    use super::codec::is_page;
     use super::page::{Entry, Page};
     use super::roots::{Root, Slot};
     use super::stored::Stored;
-    use std::test::Fail;
 
     fn page_words(level: u32, speed: u32, value: u32) -> [u32; 32]
         requires { (level < 5) × ((speed < 10000) × (value < 20000)) }
@@ -54,12 +54,13 @@ mod tests {
         words
     }
 
-    fn is_page(words: [u32; 32], at: usize, word: u32) -> bool
+    // Whether the altered words are a page's.
+    fn stays_page(words: [u32; 32], at: usize, word: u32) -> bool
         requires { at < 32 }
     {
         let mut altered = words;
         altered[at] = word;
-        Page::decode(&altered).is_some()
+        is_page(&altered)
     }
 
     // Whether the altered words are a slot in the even block of `blocks` blocks.
@@ -73,31 +74,26 @@ mod tests {
 
     // A leaf with the row 400, angle -100.
     #[test]
-    fn leaf_words(rt: HostRuntime) -> Result<(), Fail> {
+    fn leaf_words(rt: HostRuntime) {
         let words = page_words(0, 400, 8900);
         assert_eq!(rt; words[0], 0x1000_0001);
         assert_eq!(rt; words[1], 0);
         assert_eq!(rt; words[2], 0x3000_0190);
         assert_eq!(rt; words[3], 0x4000_22C4);
         assert_eq!(rt; words[31], 0);
-        match Page::decode(&words) {
-            Some(back) => {
-                assert_eq!(rt; back.entries[0].value, 8900);
-                Ok(())
-            },
-            None => Err(Fail::new("the words are a leaf's")),
-        }
+        assert!(rt; is_page(&words));
     }
 
-    // An index block of level 4, then with level 5, with one entry more, with an angle for a child, with a word too many.
+    // An index block of level 4, then with level 5, with one entry more, a leaf's header, an angle for a child, a word too many.
     #[test]
     fn malformed_pages(rt: HostRuntime) {
         let words = page_words(4, 0, 9);
-        assert!(rt; is_page(words, 0, 0x2000_0401));
-        assert!(rt; !is_page(words, 0, 0x2000_0501));
-        assert!(rt; !is_page(words, 0, 0x2000_0402));
-        assert!(rt; !is_page(words, 3, 0x4000_0009));
-        assert!(rt; !is_page(words, 31, 1));
+        assert!(rt; stays_page(words, 0, 0x2000_0401));
+        assert!(rt; !stays_page(words, 0, 0x2000_0501));
+        assert!(rt; !stays_page(words, 0, 0x2000_0402));
+        assert!(rt; !stays_page(words, 0, 0x1000_0401));
+        assert!(rt; !stays_page(words, 3, 0x4000_0009));
+        assert!(rt; !stays_page(words, 31, 1));
     }
 
     // Clone 3 has a tree of height 1 with its root in block 7; then too few blocks, the odd block's generation, height 6, another kind.

@@ -1,7 +1,7 @@
 // The words of slots.
 ghost use Rattle.std.specs.Prelude.{◌≡◌, ℕ, ◌+◌, ◌-◌, ◌*◌, ◌/◌, ◌%◌, ◌<◌, ◌≤◌, map, length};
-ghost use Rattle.page.specs.Slot.{clone_word, clone_read, rooted, every};
-ghost use Rattle.page.specs.View.{root_of};
+ghost use Rattle.page.specs.Slot.{clone_word, clone_read, slot_loose, rooted, every};
+ghost use Rattle.page.specs.View.{root_of, slot_of};
 
 use super::roots::{Root, Slot};
 use super::stored::Stored;
@@ -29,6 +29,17 @@ fn read_clone(word: u32) -> Option<Root>
     }
 }
 
+// The slot that words would hold, if they hold one.
+fn slot_loose(words: &[u32]) -> Slot
+    requires { 32 ≤ length words.now }
+    ensures { slot_of result ≡ slot_loose words.now }
+{
+    Slot {
+        generation: payload(words[0]),
+        places: array::from_fn(|i| read_clone(words[i + 1])),
+    }
+}
+
 // Whether a clone that is there has a height from 1 to 5, and its root in a block from 2 on.
 fn is_rooted(place: Option<Root>, blocks: u32) -> bool
     ensures { result ≡ rooted blocks (root_of place) }
@@ -43,16 +54,13 @@ fn is_rooted(place: Option<Root>, blocks: u32) -> bool
 }
 
 impl Stored for Slot {
-    ghost use Rattle.std.specs.Prelude.{◌≡◌, ⊤};
-    ghost use Rattle.std.specs.Option.{option_map};
-    ghost use Rattle.page.specs.Slot.{decode_slot, slot_words};
+    ghost use Rattle.std.specs.Prelude.{⊤};
+    ghost use Rattle.page.specs.Slot.{slot_words};
     ghost use Rattle.page.specs.View.{slot_of};
 
     ghost words_of = { λ w s. slot_words w (slot_of s).0 (slot_of s).1 };
 
     ghost storable = { λ _. ⊤ };
-
-    ghost holds = { λ ws s. option_map slot_of s ≡ decode_slot ws };
 
     fn encode(&self, out: &mut [u32]) {
         out.fill(0);
@@ -61,19 +69,25 @@ impl Stored for Slot {
             out[i + 1] = clone_word(*place);
         }
     }
-
-    fn candidate(words: &[u32]) -> Option<Slot> {
-        Some(Slot {
-            generation: payload(words[0]),
-            places: array::from_fn(|i| read_clone(words[i + 1])),
-        })
-    }
 }
 
 impl Slot {
     ghost use Rattle.std.specs.Prelude.{◌≡◌};
-    ghost use Rattle.page.specs.Slot.{slot_stands, every, rooted};
+    ghost use Rattle.std.specs.Option.{option_map};
+    ghost use Rattle.page.specs.Slot.{decode_slot, slot_stands, every, rooted};
     ghost use Rattle.page.specs.View.{slot_of, root_of};
+
+    // The slot that words hold, if they are the words of one.
+    pub fn decode(words: &[u32]) -> Option<Slot>
+        requires wide { (32 ≤ length words.now) × (length words.now ≤ 40) }
+        ensures { option_map slot_of result ≡ decode_slot words.now }
+    {
+        let slot = slot_loose(words);
+        let mut buffer = [0u32; 40];
+        let again = &mut buffer[..words.len()];
+        slot.encode(again);
+        if words == again { Some(slot) } else { None }
+    }
 
     // Whether each clone's root stands, on a device of so many blocks.
     fn is_rooted(&self, blocks: u32) -> bool

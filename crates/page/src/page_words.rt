@@ -1,14 +1,15 @@
 // A tree block as the words of its block, to be read: an entry is taken from its two words when it is asked for.
-ghost use Rattle.std.specs.Prelude.{◌≡◌, ℕ, suc, ◌<◌, ◌≤◌, true, is_some, length, Some, slice_index_or};
-ghost use Rattle.device.specs.Meaning.{words};
-ghost use Rattle.page.specs.Block.{block_at};
-ghost use Rattle.page.specs.Io.{Wide};
+ghost use Rattle.std.specs.Prelude.{◌≡◌, ℕ, suc, ◌<◌, ◌≤◌, true, is_some, length, Some, None, slice_index_or, if◌then◌else◌};
+ghost use Rattle.device.specs.Meaning.{reading};
+ghost use Rattle.page.specs.Block.{block_at, decode};
+ghost use Rattle.page.specs.Io.{Wide, ReadAs};
 ghost use Rattle.page.specs.View.{view};
 ghost use Rattle.tree.specs.Reads.{look};
 
+use super::codec::is_page;
 use super::page::{Entry, Page};
 use arrayvec::ArrayVec;
-use device::Device;
+use device::{Device, DeviceFault};
 use std::marker::Model;
 use word::payload;
 
@@ -46,6 +47,21 @@ impl PageWords {
     {
         let width = device.width() as usize;
         device.read(block, &mut self.words[..width]).unwrap();
+    }
+
+    // Reads a block that may hold a page; whether it does.
+    pub fn try_load<D: Device>(&mut self, device: &mut D, block: u32) -> Result<bool, DeviceFault>
+        requires { Wide (D.Device.meaning device.old) }
+        ensures same { D.Device.meaning device.new ≡ D.Device.meaning device.old }
+        ensures answer { ReadAs (λ ws holds. decode ws ≡ (if holds then Some self.new else None)) (reading D.Device.code (D.Device.meaning device.old) block (D.Device.meaning device.old).width) result }
+    {
+        let width = device.width() as usize;
+        device.read(block, &mut self.words[..width])?;
+        let holds = is_page(&self.words[..width]);
+        if !holds {
+            *self = PageWords::empty();
+        }
+        Ok(holds)
     }
 
     // The level: 0 for a leaf.

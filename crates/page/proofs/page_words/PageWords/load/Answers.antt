@@ -1,7 +1,7 @@
 use Rattle.std.proofs.Common.{◌≡◌, ℕ, ◌+◌, ◌≤◌, List, length, take, drop, length-drop, refl, ap, ◌∙◌, arith}
 use Rattle.device.specs.Meaning.{answered, filled}
 use Rattle.page.proofs.Seen.{Standing, standing, front_width, front_readable, front_read}
-use Rattle.page.proofs.glance.PageWords.load.Goals as goal
+use Rattle.page.proofs.page_words.PageWords.load.Goals as goal
 
 pub unwrap-requires : goal.unwrap-requires
 unwrap-requires g c =

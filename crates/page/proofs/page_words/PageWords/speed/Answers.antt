@@ -1,7 +1,7 @@
 use Rattle.std.proofs.Common.{◌≡◌, ℕ, ◌+◌, ◌*◌, ◌<◌, ◌≤◌, length, get_or, sym, ap, ◌∙◌, subst, arith}
 use Rattle.page.specs.Block.{Block, read}
 use Rattle.page.proofs.Seen.{read_length, read_at}
-use Rattle.page.proofs.glance.PageWords.speed.Goals as goal
+use Rattle.page.proofs.page_words.PageWords.speed.Goals as goal
 
 pub overflow_mul-i : goal.overflow_mul-i
 overflow_mul-i c = omega (arith, c.requires, ap (λ (b : Block). length b.entries) c.self.view_is, read_length c.self.inside.words, c.self.invariant.few)

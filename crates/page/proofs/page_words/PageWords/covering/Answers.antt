@@ -1,6 +1,6 @@
 use Rattle.std.proofs.Common.{◌≡◌, ℕ, suc, ◌+◌, ◌<◌, ◌≤◌, get_or, sym, ap, ◌∙◌, subst, ⊎_elim, add-one, arith}
 use Rattle.std.proofs.lemmas.Bool.{cases_eq}
-use Rattle.page.proofs.glance.PageWords.covering.Goals as goal
+use Rattle.page.proofs.page_words.PageWords.covering.Goals as goal
 
 pub loop-i-preserved : goal.loop-i-preserved
 loop-i-preserved c k h = ⊎_elim

@@ -1,7 +1,7 @@
 use Rattle.std.proofs.Common.{◌≡◌, ℕ, ◌<◌, length, get_or, Some, sym, ap, ◌∙◌, subst, ⊎_elim, arith}
 use Rattle.std.proofs.lemmas.Bool.{cases_eq}
 use Rattle.page.proofs.Seen.{look_hit, look_miss}
-use Rattle.page.proofs.glance.PageWords.find.Goals as goal
+use Rattle.page.proofs.page_words.PageWords.find.Goals as goal
 
 pub loop-i-preserved : goal.loop-i-preserved
 loop-i-preserved c k h = ⊎_elim

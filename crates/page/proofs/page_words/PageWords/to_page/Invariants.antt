@@ -1,6 +1,6 @@
 use Rattle.std.proofs.Common.{◌≡◌, map, take}
 use Rattle.page.specs.View.{pair}
-use Rattle.page.proofs.glance.PageWords.to_page.Given as goal
+use Rattle.page.proofs.page_words.PageWords.to_page.Given as goal
 
 abbrev pub invariant-loop-i : goal.invariant-loop-i
 invariant-loop-i l = map pair l.entries.items ≡ take l.i l.self.entries
