@@ -1,18 +1,21 @@
 // A device whose tree blocks are counted by their references.
-ghost use Rattle.std.specs.Prelude.{◌≡◌, ℕ, ◌+◌, ◌-◌, ◌<◌, ◌≤◌, ◌==◌, true, [], ◌∷◌, length, is_some, Some, vec_len, slice_index};
+ghost use Rattle.std.specs.Prelude.{◌≡◌, ℕ, ◌+◌, ◌-◌, ◌<◌, ◌≤◌, ◌==◌, true, [], ◌∷◌, length, is_some, Some, None, if◌then◌else◌, vec_len, slice_index};
+ghost use Rattle.std.specs.Option.{option_map};
 ghost use Rattle.device.specs.Meaning.{blocks_of, reading, written, flushed};
-ghost use Rattle.page.specs.Block.{block_at};
+ghost use Rattle.page.specs.Block.{block_at, decode};
 ghost use Rattle.page.specs.Io.{Wide, ReadAs};
-ghost use Rattle.page.specs.View.{view};
+ghost use Rattle.page.specs.Slot.{decode_slot};
+ghost use Rattle.page.specs.View.{view, slot_of};
 ghost use Rattle.counts.specs.Grants.{lowest_free};
 ghost use Rattle.counts.specs.Keeping.{retained};
 ghost use Rattle.counts.specs.Moves.{opening, linking, step, Shaped, Owned, Held, Dropped};
 
 use super::{Counts, Grant};
 use device::{Device, DeviceFault, LayerMark};
-use page::glance::PageWords;
-use page::io::{read_block, write_block};
+use page::io::{read_slot, write_block};
 use page::page::Page;
+use page::page_words::PageWords;
+use page::roots::Slot;
 use page::stored::Stored;
 use std::marker::Model;
 
@@ -92,12 +95,12 @@ impl<D: Device> Store<D> {
         Grant::lowest(&self.counts, self.hint, n)
     }
 
-    // What a block holds, if it holds a value.
-    pub fn read<T: Stored>(&mut self, block: u32) -> Result<Option<T>, DeviceFault>
+    // The slot that a block holds, if it holds one.
+    pub fn read_slot(&mut self, block: u32) -> Result<Option<Slot>, DeviceFault>
         ensures kept { self.new ≡ self.old }
-        ensures answer { ReadAs T.Stored.holds (reading D.Device.code self.old.0 block self.old.0.width) result }
+        ensures answer { ReadAs (λ ws s. option_map slot_of s ≡ decode_slot ws) (reading D.Device.code self.old.0 block self.old.0.width) result }
     {
-        read_block(&mut self.device, block)
+        read_slot(&mut self.device, block)
     }
 
     // Writes a value to a block, on a device that has a write left.
@@ -135,6 +138,14 @@ impl<D: Device> Store<D> {
         ensures page { block_at self.old.0 block ≡ Some page.new }
     {
         page.load(&mut self.device, block);
+    }
+
+    // Reads a block that may hold a page, over what was read before; whether it does.
+    pub fn try_load(&mut self, block: u32, page: &mut PageWords) -> Result<bool, DeviceFault>
+        ensures kept { self.new ≡ self.old }
+        ensures answer { ReadAs (λ ws holds. decode ws ≡ (if holds then Some page.new else None)) (reading D.Device.code self.old.0 block self.old.0.width) result }
+    {
+        page.try_load(&mut self.device, block)
     }
 
     // The page of a block that holds one.

@@ -1,16 +1,13 @@
 -- One block: its own fault, and what is known where it has none.
-use Rattle.std.proofs.Common.{◌≡◌, ℕ, ◌<◌, Bool, true, false, List, Some, None, Ok, Err, Option, Result, sym, refl, ap, ◌∙◌, subst, arith}
-use Rattle.std.specs.Bool.{then_some}
-use Rattle.std.specs.Option.{MatchOption, ok_or, option_map, option_or}
+use Rattle.std.proofs.Common.{◌≡◌, ℕ, ◌<◌, Bool, true, false, cond, List, Some, None, Ok, Err, Option, Result, sym, refl, ap, ◌∙◌, subst, arith}
+use Rattle.std.specs.Option.{option_or}
 use Rattle.std.specs.Result.{MatchResult}
-use Rattle.device.specs.declared.Layer.{Layer}
 use Rattle.device.specs.declared.DeviceFault.{DeviceFault}
+use Rattle.device.specs.declared.Layer.{Layer}
 use Rattle.device.specs.Meaning.{Meaning, Content, words, damaged, blocks_of, current_at, held, reading}
 use Rattle.device.proofs.Calls.{reading_at}
-use Rattle.page.specs.Block.{Block, decode, block_in, block_at}
 use Rattle.page.specs.Io.{ReadAs}
-use Rattle.page.specs.View.{view}
-use Rattle.page.specs.declared.page.Page.{Page}
+use Rattle.page.specs.Block.{Block, decode, block_in, block_at}
 use Rattle.model.specs.declared.refusal.Refusal.{Refusal}
 use Rattle.model.specs.declared.refusal.Refusal.TheVariants.{Malformed}
 use Rattle.model.specs.TreeBlocks.{entries_in}
@@ -51,12 +48,12 @@ sound_block m k l lo hi b h =
     record { block = p.0; here = p.1; made = made_parts (blocks_of m) k l lo hi p.0 p.2; below = p.3 }
 
 -- a block that was loaded
-pub loaded_made : (m : Meaning) (d : Due) (p : Page) → Loaded m d p → Made (blocks_of m) d.least d.level d.low d.high (view p)
+pub loaded_made : (m : Meaning) (d : Due) (p : Block) → Loaded m d p → Made (blocks_of m) d.least d.level d.low d.high p
 unfolding block_at
 loaded_made m d p ld =
     let q = content_part (blocks_of m) d.least d.level d.low d.high d.block (λ es. None) (current_at m d.block) ld.fine in
-    let e : ◌≡◌ {A = Option Block} (Some q.0) (Some (view p)) = sym q.1 ∙ ld.here in
-    let s : q.0 ≡ view p = cc in
+    let e : ◌≡◌ {A = Option Block} (Some q.0) (Some p) = sym q.1 ∙ ld.here in
+    let s : q.0 ≡ p = cc in
     subst (Made (blocks_of m) d.least d.level d.low d.high) s (made_parts (blocks_of m) d.least d.level d.low d.high q.0 q.2)
 
 -- what is read of a block is held there
@@ -67,41 +64,37 @@ held_ok (damaged k) ws h = absurd (let z : ◌≡◌ {A = ℕ} 0 1 = cc in omega
 pub read_words : (c : Layer) (m : Meaning) (b : ℕ) (ws : List ℕ) → b < blocks_of m → reading c m b m.width ≡ Ok ws → current_at m b ≡ words ws
 read_words c m b ws lt h = held_ok (current_at m b) ws (sym (reading_at c m b m.width refl lt) ∙ h)
 
--- an answer that was good stays so when its refusal is put in other words
-pub ok_of : {T E : Type 0} (F : Type 0) (r : Result T E) (x : T) → MatchResult r (λ y. ◌≡◌ {A = Result T F} (Ok x) (Ok y)) (λ e. ⊥) → r ≡ Ok x
-ok_of F (Ok y) x h = let e : x ≡ y = cc in ap Ok (sym e)
-ok_of F (Err e) x h = absurd h
+-- the answer that was good
+is_good : {T : Type 0} (F : Type 0) (r : Result T DeviceFault) (x : T) → MatchResult r (λ y. ◌≡◌ {A = Result T F} (Ok x) (Ok y)) (λ e. ⊥) → r ≡ Ok x
+is_good F (Ok y) x h = let e : x ≡ y = cc in ap Ok (sym e)
+is_good F (Err e) x h = absurd h
 
--- the page that was read where it is due
-module _ (c : Layer) (m : Meaning) (d : Due) (lt : d.block < blocks_of m) where
-  abbrev made : Page → Bool
-  made p = well_made (blocks_of m) d.least d.level d.low d.high (view p)
+-- Where a block is due it was read whether there is one, b; the answer r was good.
+module _ (c : Layer) (m : Meaning) (d : Due) (lt : d.block < blocks_of m) (b : Block) (F : Type 0) (r : Result Bool DeviceFault) (holds : Bool)
+    (read : ReadAs (λ (ws : List ℕ) (t : Bool). decode ws ≡ cond t (Some b) None) (reading c m d.block m.width) r) (good : MatchResult r (λ t. ◌≡◌ {A = Result Bool F} (Ok holds) (Ok t)) (λ e. ⊥)) where
+  there : block_in (current_at m d.block) ≡ cond holds (Some b) None
+  there =
+      let a = subst (ReadAs (λ (ws : List ℕ) (t : Bool). decode ws ≡ cond t (Some b) None) (reading c m d.block m.width)) (is_good F r holds good) read in
+      ap block_in (read_words c m d.block a.0 lt a.1) ∙ a.2
 
-  abbrev Outcome : Result Page Refusal → Type 0
-  Outcome r = MatchResult r (λ p. Loaded m d p) (λ e. Err e ≡ passes d.clone (own_fault m d))
+  own_of : (o : Option Block) → cond holds (Some b) None ≡ o → own_fault m d ≡ in_block (blocks_of m) d.least d.level d.low d.high d.block (λ es. None) o
+  own_of o e =
+      let a = subst (ReadAs (λ (ws : List ℕ) (t : Bool). decode ws ≡ cond t (Some b) None) (reading c m d.block m.width)) (is_good F r holds good) read in
+      ap (in_content (blocks_of m) d.least d.level d.low d.high d.block (λ es. None)) (read_words c m d.block a.0 lt a.1)
+      ∙ ap (in_block (blocks_of m) d.least d.level d.low d.high d.block (λ es. None)) (a.2 ∙ e)
 
-  own_of : (ws : List ℕ) (o : Option Block) → current_at m d.block ≡ words ws → o ≡ decode ws → own_fault m d ≡ in_block (blocks_of m) d.least d.level d.low d.high d.block (λ es. None) o
-  own_of ws o e s =
-      ap (in_content (blocks_of m) d.least d.level d.low d.high d.block (λ es. None)) e
-      ∙ ap (in_block (blocks_of m) d.least d.level d.low d.high d.block (λ es. None)) (sym s)
+  pub none_held : holds ≡ false → Err (Malformed d.block d.clone) ≡ passes d.clone (own_fault m d)
+  none_held e = sym (ap (passes d.clone) (own_of None (ap (λ (t : Bool). cond t (Some b) None) e)))
 
-  by_test : (p : Page) (ws : List ℕ) (t : Bool) → current_at m d.block ≡ words ws → Some (view p) ≡ decode ws → t ≡ made p → Outcome (ok_or (then_some t p) (Malformed d.block d.clone))
-  unfolding block_at
-  by_test p ws true e s k = record { fine = own_of ws (Some (view p)) e s ∙ ap (λ x. if_made d.block x None) (sym k); here = ap block_in e ∙ sym s }
-  by_test p ws false e s k = sym (ap (passes d.clone) (own_of ws (Some (view p)) e s ∙ ap (λ x. if_made d.block x None) (sym k)))
+  module _ (n : ℕ) (same : n ≡ blocks_of m) (e : holds ≡ true) (t : Bool) (tested : t ≡ well_made n d.least d.level d.low d.high b) where
+    own : own_fault m d ≡ if_made d.block t None
+    own =
+        own_of (Some b) (ap (λ (t : Bool). cond t (Some b) None) e)
+        ∙ ap (λ (x : Bool). if_made d.block x None) (sym (tested ∙ ap (λ (k : ℕ). well_made k d.least d.level d.low d.high b) same))
 
-  loaded_as : (o q : Option Page) (r : Result Page Refusal) → ReadAs (λ ws p. option_map view p ≡ decode ws) (reading c m d.block m.width) (Ok o)
-      → MatchOption o (q ≡ None) (λ p. (t : Bool) × (t ≡ made p) × (q ≡ then_some t p)) → r ≡ ok_or q (Malformed d.block d.clone) → Outcome r
-  loaded_as None q r a f e =
-      subst Outcome (sym (e ∙ ap (λ (q : Option Page). ok_or q (Malformed d.block d.clone)) f)) (sym (ap (passes d.clone) (own_of a.0 None (read_words c m d.block a.0 lt a.1) a.2)))
-  loaded_as (Some p) q r a f e =
-      subst Outcome (sym (e ∙ ap (λ (q : Option Page). ok_or q (Malformed d.block d.clone)) f.2)) (by_test p a.0 f.0 (read_words c m d.block a.0 lt a.1) a.2 f.1)
+    pub off_layout : t ≡ false → Err (Malformed d.block d.clone) ≡ passes d.clone (own_fault m d)
+    off_layout k = sym (ap (passes d.clone) (own ∙ ap (λ (x : Bool). if_made d.block x None) k))
 
-  pub loaded : (F : Type 0) (G : Page → Bool → Type 0) (a : Result (Option Page) DeviceFault) (o q : Option Page) (r : Result Page Refusal) → ReadAs (λ ws p. option_map view p ≡ decode ws) (reading c m d.block m.width) a
-      → MatchResult a (λ x. ◌≡◌ {A = Result (Option Page) F} (Ok o) (Ok x)) (λ e. ⊥) → MatchOption o (q ≡ None) (λ p. (t : Bool) × G p t × (q ≡ then_some t p)) → ((p : Page) (t : Bool) → G p t → t ≡ made p)
-      → r ≡ ok_or q (Malformed d.block d.clone) → Outcome r
-  loaded F G a o q r h s f by = loaded_as o q r (subst (ReadAs (λ ws p. option_map view p ≡ decode ws) (reading c m d.block m.width)) (ok_of F a o s) h) (tested o f)
-    where
-      tested : (o : Option Page) → MatchOption o (q ≡ None) (λ p. (t : Bool) × G p t × (q ≡ then_some t p)) → MatchOption o (q ≡ None) (λ p. (t : Bool) × (t ≡ made p) × (q ≡ then_some t p))
-      tested None f = f
-      tested (Some p) f = (f.0, by p f.0 f.1, f.2)
+    pub on_layout : t ≡ true → Loaded m d b
+    unfolding block_at
+    on_layout k = record { fine = own ∙ ap (λ (x : Bool). if_made d.block x None) k; here = there ∙ ap (λ (t : Bool). cond t (Some b) None) e }

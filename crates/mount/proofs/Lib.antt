@@ -1,5 +1,4 @@
 pub mod Lists
-pub mod Pages
 pub mod Blocks
 pub mod Tally
 pub mod Walking

@@ -1,13 +1,11 @@
 -- The steps of the walk.
-use Rattle.std.proofs.Common.{◌≡◌, ℕ, zero, suc, ◌+◌, ◌-◌, ◌<◌, ◌≤◌, Bool, true, false, cond, ◌&&◌, eqb, ltb, leb, List, [], ◌∷◌, map, length, get_or, drop, Some, None, Ok, Err, Option, Result, sym, refl, ap, ◌∙◌, subst, arith}
+use Rattle.std.proofs.Common.{◌≡◌, ℕ, zero, suc, ◌+◌, ◌-◌, ◌<◌, ◌≤◌, Bool, true, false, cond, ◌&&◌, eqb, ltb, leb, List, [], ◌∷◌, map, length, get_or, drop, Some, None, Ok, Err, Option, Result, sym, refl, ap, ◌∙◌, subst, ap₂, arith}
 use Rattle.std.proofs.lemmas.Bool.{and_parts, ltb-true, eqb-true}
 use Rattle.std.specs.Option.{option_or}
 use Rattle.device.specs.Meaning.{Meaning, Content, blocks_of, current_at}
-use Rattle.page.specs.Block.{block_at, kids_of, children}
+use Rattle.std.proofs.lemmas.List.{drop_more}
+use Rattle.page.specs.Block.{Block, block_at, kids_of, children}
 use Rattle.page.specs.Slot.{every}
-use Rattle.page.specs.View.{pair, entries}
-use Rattle.page.specs.declared.page.Entry.{Entry}
-use Rattle.page.specs.declared.page.Page.{Page}
 use Rattle.tree.specs.Layout.{next}
 use Rattle.counts.specs.Counts.{occ}
 use Rattle.counts.specs.Keeping.{retained}
@@ -18,7 +16,7 @@ use Rattle.model.specs.Walk.{Fault, payable, among, fault_below, fault_at}
 use Rattle.mount.specs.declared.walk.Due.{Due}
 use Rattle.mount.specs.Due.{own_fault, first_fault, passes, Loaded}
 use Rattle.mount.specs.Tally.{along, tallied, kids, Room}
-use Rattle.mount.proofs.Lists.{drop_here, every_at}
+use Rattle.mount.proofs.Lists.{every_at}
 use Rattle.mount.proofs.Blocks.{split_fault, loaded_made}
 use Rattle.mount.proofs.Tally.{tallies, count_first}
 
@@ -63,13 +61,16 @@ child_fault m d = fault_at (blocks_of m) (current_at m) 7 (d.level - 1)
 pub own_first : (m : Meaning) (d : Due) (e : Refusal) → Err e ≡ passes d.clone (own_fault m d) → Err e ≡ passes d.clone (first_fault m d)
 own_first m d e h = passes_stop d.clone (own_fault m d) _ e h ∙ sym (ap (passes d.clone) (split_fault m d))
 
--- At a block that was loaded, over its entries es.
-module _ (m : Meaning) (d : Due) (p : Page) (es : List (ℕ × ℕ)) (ld : Loaded m d p) (same : es ≡ entries p) where
+-- At a block that was loaded, over its entries.
+module _ (m : Meaning) (d : Due) (p : Block) (ld : Loaded m d p) where
+  abbrev es : List (ℕ × ℕ)
+  es = p.entries
+
   entries_here : entries_in (block_at m d.block) ≡ es
-  entries_here = ap entries_in ld.here ∙ sym same
+  entries_here = ap entries_in ld.here
 
   kids_here : 0 < d.level → kids_of (block_at m d.block) ≡ kids es
-  kids_here h = ap kids_of ld.here ∙ kids_pos p.level (entries p) (omega (arith, (loaded_made m d p ld).level)) ∙ ap kids (sym same)
+  kids_here h = ap kids_of ld.here ∙ kids_pos p.level es (omega (arith, (loaded_made m d p ld).level))
 
   first_below : first_fault m d ≡ fault_below (blocks_of m) (current_at m) d.level d.high es
   first_below =
@@ -98,7 +99,7 @@ module _ (m : Meaning) (d : Due) (p : Page) (es : List (ℕ × ℕ)) (ld : Loade
   child_in : (i s c : ℕ) (rest : List (ℕ × ℕ)) → 0 < d.level → drop i es ≡ (s, c) ∷ rest → c < blocks_of m
   child_in i s c rest up e =
       let pays = payable (blocks_of m) d.level in
-      payable_in (blocks_of m) d.level (s, c) up (every_at pays i es rest (s, c) (ap (every pays) same ∙ (loaded_made m d p ld).pays) e)
+      payable_in (blocks_of m) d.level (s, c) up (every_at pays i es rest (s, c) (loaded_made m d p ld).pays e)
 
   -- a child's fault is the first
   pub child_first : (i s c : ℕ) (rest : List (ℕ × ℕ)) (e : Refusal) → 0 < d.level → drop i es ≡ (s, c) ∷ rest
@@ -134,21 +135,21 @@ module _ (m : Meaning) (d : Due) (p : Page) (es : List (ℕ × ℕ)) (ld : Loade
           ∙ ap (λ es. cond (eqb (get_or cs d.block 0) 0) (along (tallied m (d.level - 1)) es (retained d.block cs)) (retained d.block cs)) (sym entries_here)
           ∙ sym (split_tally m d.level d.block cs up)
 
--- One turn of the loop over the entries xs of the page p: the child at entry i, e.
-pub record Turn (m : Meaning) (d : Due) (es : List (ℕ × ℕ)) (i : ℕ) (e : Entry) : Type 0 where
-  pub here : drop i es ≡ (e.speed, e.value) ∷ drop (i + 1) es
-  pub within : e.value < blocks_of m
+-- One turn of the loop over the entries es of a block: the child c at entry i, with separator s.
+pub record Turn (m : Meaning) (es : List (ℕ × ℕ)) (i s c : ℕ) : Type 0 where
+  pub here : drop i es ≡ (s, c) ∷ drop (i + 1) es
+  pub within : c < blocks_of m
 
-pub turn : (m : Meaning) (d : Due) (p : Page) (xs : List Entry) (i : ℕ) (e : Entry) → Loaded m d p → xs ≡ p.entries.items → 0 < d.level → e ≡ get_or xs i e → i < length xs → Turn m d (map pair xs) i e
-turn m d p xs i e ld same up is lt =
-    let q = drop_here pair xs i e is lt in
-    record { here = q; within = child_in m d p (map pair xs) ld (ap (map pair) same) i e.speed e.value (drop (i + 1) (map pair xs)) up q }
+pub turn : (m : Meaning) (d : Due) (p : Block) (i s c : ℕ) → Loaded m d p → 0 < d.level → i < length p.entries → s ≡ (get_or p.entries i (0, 0)).0 → c ≡ (get_or p.entries i (0, 0)).1 → Turn m p.entries i s c
+turn m d p i s c ld up lt es ec =
+    let q : drop i p.entries ≡ (s, c) ∷ drop (i + 1) p.entries = drop_more p.entries i (0, 0) lt ∙ sym (ap₂ (λ (x y : ℕ). (x, y) ∷ drop (i + 1) p.entries) es ec) in
+    record { here = q; within = child_in m d p ld i s c (drop (i + 1) p.entries) up q }
 
 -- what is answered for the child, walked on a device that means m, below the bound that was looked up in the page
-pub child_answer : (m mᵢ : Meaning) (d : Due) (p : Page) (xs : List Entry) (i high : ℕ) (e : Entry) (r : Result Unit Refusal) → xs ≡ p.entries.items → mᵢ ≡ m → high ≡ next d.high (drop (i + 1) (entries p))
-    → r ≡ passes d.clone (child_fault mᵢ d e.speed high e.value) → r ≡ passes d.clone (child_fault m d e.speed (next d.high (drop (i + 1) (map pair xs))) e.value)
-child_answer m mᵢ d p xs i high e r same kept up a =
-    a ∙ ap (λ m. passes d.clone (child_fault m d e.speed high e.value)) kept ∙ ap (λ u. passes d.clone (child_fault m d e.speed u e.value)) (up ∙ ap (λ xs. next d.high (drop (i + 1) (map pair xs))) (sym same))
+pub child_answer : (m mᵢ : Meaning) (d : Due) (p : Block) (i high s c : ℕ) (r : Result Unit Refusal) → mᵢ ≡ m → high ≡ next d.high (drop (i + 1) p.entries)
+    → r ≡ passes d.clone (child_fault mᵢ d s high c) → r ≡ passes d.clone (child_fault m d s (next d.high (drop (i + 1) p.entries)) c)
+child_answer m mᵢ d p i high s c r kept up a =
+    a ∙ ap (λ m. passes d.clone (child_fault m d s high c)) kept ∙ ap (λ u. passes d.clone (child_fault m d s u c)) up
 
 -- the next child's reference is due
 pub next_room : (m : Meaning) (cs : List ℕ) (es rest : List (ℕ × ℕ)) (s c : ℕ) → es ≡ (s, c) ∷ rest → Room (m, cs) (kids es) → Room (m, cs) (c ∷ [])

@@ -2,10 +2,8 @@
 use Rattle.std.specs.Prelude.{◌≡◌, ℕ, ◌≤◌, Some, None, Ok, Err, Option, Result}
 use Rattle.device.specs.Numbers.{fault_mark}
 use Rattle.device.specs.Meaning.{Meaning, blocks_of, current_at}
-use Rattle.page.specs.Block.{block_at}
+use Rattle.page.specs.Block.{Block, block_at}
 use Rattle.page.specs.Io.{Wide}
-use Rattle.page.specs.View.{view}
-use Rattle.page.specs.declared.page.Page.{Page}
 use Rattle.model.specs.declared.refusal.Refusal.{Refusal}
 use Rattle.model.specs.declared.refusal.Refusal.TheVariants.{Damaged}
 use Rattle.model.specs.Walk.{Fault, in_content, fault_at}
@@ -36,7 +34,7 @@ passes k (Some f) = Err (faulty (k, f))
 abbrev pub refusal_of : Met → Refusal
 refusal_of f = Damaged f.block f.clone (fault_mark f.fault)
 
--- a page that was read where it is due
-pub record Loaded (m : Meaning) (d : Due) (p : Page) : Type 0 where
+-- the tree block that was read where it is due
+pub record Loaded (m : Meaning) (d : Due) (b : Block) : Type 0 where
   pub fine : own_fault m d ≡ None
-  pub here : block_at m d.block ≡ Some (view p)
+  pub here : block_at m d.block ≡ Some b

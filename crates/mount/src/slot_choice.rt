@@ -19,7 +19,7 @@ fn slot_at<D: Device>(store: &mut Store<D>, block: u32) -> Option<Slot>
     ensures answer { option_map slot_of result ≡ slot_in (blocks_of store.old.0) block (current_at store.old.0 block) }
 {
     let blocks = store.blocks();
-    let slot: Option<Slot> = store.read(block).ok()?;
+    let slot = store.read_slot(block).ok()?;
     slot.filter(|slot| slot.stands(blocks, block))
 }
 

@@ -1,8 +1,7 @@
 // The walk of a tree: the first block that is damaged or off the layout, and the references counted on the way.
-ghost use Rattle.std.specs.Prelude.{◌≡◌, ℕ, ◌+◌, ◌-◌, ◌<◌, ◌≤◌, true, ◌&&◌, ◌==◌, [], ◌∷◌, length, drop, if◌then◌else◌, slice_index, Err, MatchResult, OnOk};
+ghost use Rattle.std.specs.Prelude.{◌≡◌, ℕ, ◌+◌, ◌-◌, ◌<◌, ◌≤◌, true, ◌&&◌, ◌==◌, [], ◌∷◌, length, drop, if◌then◌else◌, slice_index, slice_index_or, Err, MatchResult, OnOk};
 ghost use Rattle.device.specs.Meaning.{blocks_of};
 ghost use Rattle.page.specs.Slot.{every};
-ghost use Rattle.page.specs.View.{pair, view, entries};
 ghost use Rattle.tree.specs.Layout.{next};
 ghost use Rattle.counts.specs.Keeping.{retained};
 ghost use Rattle.counts.specs.Moves.{Shaped};
@@ -13,7 +12,7 @@ ghost use Rattle.mount.specs.Tally.{Room, tallied};
 use counts::Store;
 use device::{Device, DeviceFault};
 use model::Refusal;
-use page::page::{Entry, Page};
+use page::page_words::PageWords;
 
 // A device's fault, and the clone and block that were read.
 #[derive(Clone, Copy)]
@@ -47,76 +46,90 @@ pub struct Due {
 }
 
 // The upper bound of what stands at an entry: the next separator, or the bound of the block.
-fn upper(page: &Page, i: usize, high: u32) -> u32
-    requires { i < length page.now.entries.items }
-    ensures { result ≡ next high (drop (i + 1) (entries page.now)) }
+fn upper(page: &PageWords, i: usize, high: u32) -> u32
+    requires { i < length page.now.entries }
+    ensures { result ≡ next high (drop (i + 1) page.now.entries) }
 {
-    page.entries.get(i + 1).map_or(high, |next| next.speed)
+    let len = page.len();
+    if i + 1 < len { page.speed(i + 1) } else { high }
 }
 
-fn is_ascending(page: &Page, high: u32) -> bool
-    ensures { result ≡ ascending high (entries page.now) }
+fn is_ascending(page: &PageWords, high: u32) -> bool
+    ensures { result ≡ ascending high page.now.entries }
 {
-    let entries = page.entries.as_slice();
-    entries.is_sorted_by(|e, next| e.speed < next.speed)
-        && entries.last().is_none_or(|last| last.speed < high)
+    for i in 0..page.len() {
+        if page.speed(i) >= upper(page, i, high) {
+            return false;
+        }
+    }
+    true
 }
 
-fn is_payable(entry: &Entry, level: u32, blocks: u32) -> bool
-    ensures { result ≡ payable blocks level (pair entry.now) }
+fn is_payable(page: &PageWords, i: usize, level: u32, blocks: u32) -> bool
+    requires { i < length page.now.entries }
+    ensures { result ≡ payable blocks level (slice_index_or page.now.entries i (0, 0)) }
 {
+    let value = page.value(i);
     if level == 0 {
-        entry.value <= 18000
+        value <= 18000
     } else {
-        2 <= entry.value && entry.value < blocks
+        2 <= value && value < blocks
     }
 }
 
-fn are_payable(page: &Page, level: u32, blocks: u32) -> bool
-    ensures { result ≡ every (payable blocks level) (entries page.now) }
+fn are_payable(page: &PageWords, level: u32, blocks: u32) -> bool
+    ensures { result ≡ every (payable blocks level) page.now.entries }
 {
-    page.entries
-        .iter()
-        .all(|entry| is_payable(entry, level, blocks))
+    for i in 0..page.len() {
+        if !is_payable(page, i, level, blocks) {
+            return false;
+        }
+    }
+    true
 }
 
-fn starts_at(page: &Page, level: u32, low: u32) -> bool
-    ensures { result ≡ starts level low (entries page.now) }
+fn starts_at(page: &PageWords, level: u32, low: u32) -> bool
+    ensures { result ≡ starts level low page.now.entries }
 {
-    match page.entries.first() {
-        None => level == 0,
-        Some(first) if level == 0 => low <= first.speed,
-        Some(first) => low == first.speed,
+    if page.len() == 0 {
+        level == 0
+    } else if level == 0 {
+        low <= page.speed(0)
+    } else {
+        low == page.speed(0)
     }
 }
 
 // Whether a page keeps the layout where it is due, on a device of so many blocks.
-fn is_well_made(page: &Page, due: Due, blocks: u32) -> bool
-    ensures { result ≡ well_made blocks due.least due.level due.low due.high (view page.now) }
+fn is_well_made(page: &PageWords, due: Due, blocks: u32) -> bool
+    ensures { result ≡ well_made blocks due.least due.level due.low due.high page.now }
 {
-    page.level == due.level
+    page.level() == due.level
         && starts_at(page, due.level, due.low)
         && is_ascending(page, due.high)
-        && due.least <= page.entries.len()
+        && due.least <= page.len()
         && are_payable(page, due.level, blocks)
 }
 
-// The page of a block, if it keeps the layout where it is due.
-fn load<D: Device>(store: &mut Store<D>, due: Due) -> Result<Page, Refusal>
+// Reads the page of a block, if it keeps the layout where it is due.
+fn load<D: Device>(store: &mut Store<D>, due: Due, page: &mut PageWords) -> Result<(), Refusal>
     requires { due.block < blocks_of store.old.0 }
     ensures kept { store.new ≡ store.old }
-    ensures answer { MatchResult result (λ p. Loaded store.old.0 due p) (λ e. Err e ≡ passes due.clone (own_fault store.old.0 due)) }
+    ensures answer { MatchResult result (λ _. Loaded store.old.0 due page.new) (λ e. Err e ≡ passes due.clone (own_fault store.old.0 due)) }
     ensures shape { Shaped store.old }
 {
     let Due { clone, block, .. } = due;
     let blocks = store.blocks();
-    let page: Option<Page> = store.read(block).map_err(|fault| Met {
+    let holds = store.try_load(block, page).map_err(|fault| Met {
         fault,
         clone,
         block,
     })?;
-    page.filter(|page| is_well_made(page, due, blocks))
-        .ok_or(Refusal::Malformed { block, clone })
+    if holds && is_well_made(page, due, blocks) {
+        Ok(())
+    } else {
+        Err(Refusal::Malformed { block, clone })
+    }
 }
 
 // A block is met, by a reference that counts or by one that does not; whether it counts and is the first.
@@ -141,15 +154,16 @@ pub fn walk<D: Device>(store: &mut Store<D>, due: Due, counting: bool) -> Result
     ensures counts { OnOk result (store.new.1 ≡ (if counting then tallied store.old.0 due.level due.block store.old.1 else store.old.1)) }
     ensures shape { Shaped store.old }
 {
-    let page = load(store, due)?;
+    let mut page = PageWords::empty();
+    load(store, due, &mut page)?;
     let first = meet(store, due.block, counting);
     if due.level > 0 {
-        for (i, entry) in page.entries.iter().enumerate() {
+        for i in 0..page.len() {
             let child = Due {
                 clone: due.clone,
-                block: entry.value,
+                block: page.value(i),
                 level: due.level - 1,
-                low: entry.speed,
+                low: page.speed(i),
                 high: upper(&page, i, due.high),
                 least: 7,
             };

@@ -1,6 +1,5 @@
-use Rattle.std.proofs.Common.{◌≡◌, ℕ, ◌-◌, true, cond, List, map, drop}
+use Rattle.std.proofs.Common.{◌≡◌, ℕ, ◌-◌, true, cond, List, drop}
 use Rattle.device.specs.Meaning.{Meaning}
-use Rattle.page.specs.View.{pair}
 use Rattle.model.specs.Walk.{among}
 use Rattle.mount.specs.Tally.{along, tallied, kids, Room}
 use Rattle.mount.proofs.Walking.{child_fault}
@@ -12,7 +11,7 @@ decreases-walk g l = l.due.level
 abbrev pub invariant-loop-i : goal.invariant-loop-i
 invariant-loop-i g l =
     let m : Meaning = l.fn.store.0 in
-    let es : List (ℕ × ℕ) = map pair l.entry-items in
+    let es : List (ℕ × ℕ) = l.page.entries in
     let fault = among (child_fault m l.due) l.due.high in
     let tally = along (tallied m (l.due.level - 1)) in
     record {

@@ -1,15 +1,16 @@
-use Rattle.std.proofs.Common.{◌≡◌, ap, ◌∙◌, rules, tests}
-use Rattle.page.specs.View.{view}
-use Rattle.model.specs.Walk.{well_made}
 use Rattle.mount.specs.declared.walk.Met.{Met}
-use Rattle.mount.proofs.Blocks.{loaded}
+use Rattle.mount.proofs.Blocks.{none_held, off_layout, on_layout}
+use Rattle.mount.proofs.walk.load.Goals.{else-holds-via-then-holds+else-is_well_made, else-holds-via-else-holds}
 use Rattle.mount.proofs.walk.load.Goals as goal
 
-pub returns-clause-answer : goal.returns-clause-answer
-returns-clause-answer g c =
-    let d = c.args.due in
-    loaded g.D.Device.code c.args.store.now.0 d c.requires Met _ c.read.result c.in_ok-page.page c.filter.result c.ok_or.result c.read.ensures.answer c.in_ok-page.ensures.cases c.filter.ensures
-    (λ p t k.
-    let e : t ≡ well_made c.blocks-blocks.result d.least d.level d.low d.high (view k.0.now) = search (rules, tests) in
-    e ∙ ap (λ n. well_made n d.least d.level d.low d.high (view k.0.now)) c.blocks-blocks.ensures.blocks ∙ ap (λ p. well_made _ d.least d.level d.low d.high (view p)) k.2)
-    c.ok_or.ensures.value
+pub returns-then-is_well_made-clause-answer : goal.returns-then-is_well_made-clause-answer
+returns-then-is_well_made-clause-answer g c =
+    on_layout g.D.Device.code c.args.store.now.0 c.args.due c.requires c.try_load.new.page Met c.try_load.result c.in_ok-holds.holds c.try_load.ensures.answer c.in_ok-holds.ensures.cases
+    c.blocks-blocks.result c.blocks-blocks.ensures.blocks c.if-holds.true c.is_well_made.result c.is_well_made.ensures c.if-is_well_made.true
+
+pub returns-else-holds-clause-answer : goal.returns-else-holds-clause-answer
+returns-else-holds-clause-answer g c = elim c.else-holds.branch [
+  | else-holds-via-then-holds+else-is_well_made w ↦ off_layout g.D.Device.code c.args.store.now.0 c.args.due c.requires c.try_load.new.page Met c.try_load.result c.in_ok-holds.holds c.try_load.ensures.answer c.in_ok-holds.ensures.cases
+      c.blocks-blocks.result c.blocks-blocks.ensures.blocks w.if-holds.true w.is_well_made.result w.is_well_made.ensures w.if-is_well_made.false
+  | else-holds-via-else-holds w ↦ none_held g.D.Device.code c.args.store.now.0 c.args.due c.requires c.try_load.new.page Met c.try_load.result c.in_ok-holds.holds c.try_load.ensures.answer c.in_ok-holds.ensures.cases w.if-holds.false
+]
