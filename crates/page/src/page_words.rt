@@ -1,5 +1,5 @@
 // A tree block as the words of its block, to be read: an entry is taken from its two words when it is asked for.
-ghost use Rattle.std.specs.Prelude.{◌≡◌, ℕ, suc, ◌<◌, ◌≤◌, true, is_some, length, Some, None, slice_index_or, if◌then◌else◌};
+ghost use Rattle.std.specs.Prelude.{◌≡◌, ℕ, suc, ◌<◌, ◌≤◌, true, is_some, length, Some, None, slice_index_or, if◌then◌else◌, []};
 ghost use Rattle.device.specs.Meaning.{reading};
 ghost use Rattle.page.specs.Block.{block_at, decode};
 ghost use Rattle.page.specs.Io.{Wide, ReadAs};
@@ -34,7 +34,9 @@ impl Model for PageWords {
 
 impl PageWords {
     // A leaf of no rows, for a page to be loaded over.
-    pub fn empty() -> PageWords {
+    pub fn empty() -> PageWords
+        ensures { result ≡ record { level = 0; entries = [] } }
+    {
         PageWords { words: [0; 40] }
     }
 

@@ -31,6 +31,10 @@ here m x b s e = record {
   rows = rw e refl;
 }
 
+pub readable : (m : Meaning) (x : ℕ) → SoundAt (current_at m) x → is_some (block_at m x) ≡ true
+unfolding block_at
+readable m x s = ap is_some s.stands
+
 module _ (m : Meaning) (x : ℕ) (b : Block) (h : Here m x b) where
   pub leaf_rows : b.level ≡ 0 → rows_at (current_at m) x ≡ b.entries
   leaf_rows z = h.rows ∙ ap (λ (n : ℕ). rows_in (current_at m) n b.entries) z ∙ leaf (current_at m) b.entries
@@ -75,6 +79,3 @@ pub valid_entry : (es : List (ℕ × ℕ)) (i : ℕ) → Each Valid es → i < l
 valid_entry [] i v h = absurd (not-suc-le-zero h)
 valid_entry (e ∷ r) zero v h = v.0
 valid_entry (e ∷ r) (suc i) v h = valid_entry r i v.1 (omega (arith, h))
-
-pub row_at : (r : Row) (s v : ℕ) (es : List (ℕ × ℕ)) (i : ℕ) → pair_of r ≡ (s, angle_of v) → s ≡ (get_or es i (0, 0)).0 → v ≡ (get_or es i (0, 0)).1 → pair_of r ≡ ((get_or es i (0, 0)).0, angle_of (get_or es i (0, 0)).1)
-row_at r s v es i e p q = e ∙ ap₂ (λ (x y : ℕ). (x, angle_of y)) p q

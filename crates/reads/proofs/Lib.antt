@@ -1,12 +1,9 @@
 pub mod Lists
 pub mod Children
 pub mod Places
-pub mod Pages
 pub mod Near
 pub mod Good
-pub mod Leaves
 pub mod Totals
 pub mod Written
 pub mod Planted
-pub mod Down
 pub mod Blocks

@@ -3,11 +3,12 @@ use Rattle.std.proofs.Common.{◌≡◌, ℕ, zero, suc, ◌+◌, ◌<◌, ◌�
 use Rattle.std.proofs.ByRecursion.{All-append}
 use Rattle.std.proofs.lemmas.List.{get_or-drop}
 use Rattle.std.proofs.lemmas.Bool.{cases_lt}
+use Rattle.std.proofs.lemmas.Option.{same_Some}
 use Rattle.std.specs.Option.{option_or}
 use Rattle.device.specs.Meaning.{Content}
 use Rattle.page.specs.Block.{Block, block_in, level_of}
 use Rattle.table.specs.Rows.{angle_of}
-use Rattle.model.specs.TreeBlocks.{Each}
+use Rattle.model.specs.TreeBlocks.{entries_in, Each}
 use Rattle.reads.specs.Sound.{Valid, rows_in, rows_at, Sound, FullAt}
 use Rattle.reads.specs.Descent.{child, child_before, Ends, Begins, Found}
 use Rattle.reads.specs.Lists.{due}
@@ -18,19 +19,6 @@ use Rattle.reads.proofs.Children as kids
 use Rattle.reads.proofs.Children.{inside, key, to, Kid, leaf, split, rows_more, rows_split, rows_before, rows_after}
 
 module _ (c : ℕ → Content) where
-  pub found_leaf : (x s : ℕ) (es : List (ℕ × ℕ)) → block_in (c x) ≡ Some (record { level = 0; entries = es }) → Sound c 0 es → Found c x s es None None
-  found_leaf x s es st p = record {
-    before = [];
-    after = [];
-    cut = rw st (leaf c es ∙ sym (append-nil es));
-    low = tt;
-    high = tt;
-    ends = refl;
-    begins = refl;
-    valid = subst (Each Valid) (leaf c es) p.valid;
-    some = rw st (λ h. h);
-  }
-
   child_is : (es : List (ℕ × ℕ)) (i : ℕ) → i < length es → child es i ≡ Some (to c es i)
   child_is [] i h = absurd (not-suc-le-zero h)
   child_is (e ∷ r) zero h = refl
@@ -80,29 +68,69 @@ module _ (c : ℕ → Content) where
   around bs xs leaf ys zs =
       ap (λ (z : List (ℕ × ℕ)). bs ++ z) (append_assoc xs (leaf ++ ys) zs ∙ ap (λ (z : List (ℕ × ℕ)). xs ++ z) (append_assoc leaf ys zs)) ∙ sym (append_assoc bs xs (leaf ++ (ys ++ zs)))
 
-  -- one level up from the child that covers the speed
-  pub found_index : (l x s : ℕ) (es : List (ℕ × ℕ)) (i : ℕ) → block_in (c x) ≡ Some (record { level = suc l; entries = es }) → Sound c (suc l) es → i < length es
-      → ((k : ℕ) → k < i → key c es (suc k) ≤ s) → (suc i < length es → s < key c es (suc i))
-      → (found : List (ℕ × ℕ)) (left right : Option ℕ) → Found c (to c es i) s found left right → Found c x s found (option_or left (child_before es i)) (option_or right (child es (suc i)))
-  found_index l x s es i st p h past high found left right f =
-      let k = kids.child c l es i h p in
+  -- On the way from block x down to speed s, at a block of level n with entries es: its rows stand between rows below s, which end with
+  -- those of the block on the left, and rows above s, which begin with those of the block on the right.
+  pub record Way (x s n : ℕ) (es : List (ℕ × ℕ)) (left right : Option ℕ) : Type 0 where
+    pub sound : Sound c n es
+    pub before : List (ℕ × ℕ)
+    pub after : List (ℕ × ℕ)
+    pub cut : rows_at c x ≡ before ++ (rows_in c n es ++ after)
+    pub low : Each (λ (r : ℕ × ℕ). r.0 < s) before
+    pub high : Each (λ (r : ℕ × ℕ). s < r.0) after
+    pub ends : Ends c left before
+    pub begins : Begins c right after
+    pub some : 1 ≤ length (entries_in (block_in (c x))) → 1 ≤ length es
+
+  pub way_start : (x s : ℕ) (b : Block) → block_in (c x) ≡ Some b → Sound c b.level b.entries → Way x s b.level b.entries None None
+  way_start x s b st p = record {
+    sound = p;
+    before = [];
+    after = [];
+    cut = rw st (sym (append-nil (rows_in c b.level b.entries)));
+    low = tt;
+    high = tt;
+    ends = refl;
+    begins = refl;
+    some = rw st (λ h. h);
+  }
+
+  -- one level down, to the child d that covers the speed
+  pub way_step : (x s n : ℕ) (es : List (ℕ × ℕ)) (left right : Option ℕ) (i : ℕ) (d : Block) → Way x s n es left right → 0 < n → i < length es
+      → ((k : ℕ) → k < i → key c es (suc k) ≤ s) → (suc i < length es → s < key c es (suc i)) → block_in (c (to c es i)) ≡ Some d
+      → Way x s d.level d.entries (option_or (child_before es i) left) (option_or (child es (suc i)) right) × (d.level < n)
+  way_step x s zero es left right i d w u h past high st = absurd (omega (arith, u))
+  way_step x s (suc l) es left right i d w u h past high st =
+      let k = kids.child c l es i h w.sound in
       let bs = rows_in c (suc l) (take i es) in
       let ys = rows_in c (suc l) (drop (suc i) es) in
-      record {
-        before = bs ++ f.before;
-        after = f.after ++ ys;
-        cut = rw st (split c l es i h ∙ ap (λ (z : List (ℕ × ℕ)). bs ++ (z ++ ys)) (sym k.rows ∙ f.cut) ∙ around bs f.before found f.after ys);
-        low = All-append _ bs f.before (rows_before c l s es i h p past) f.low;
-        high = All-append _ f.after ys f.high (rows_after c l s es i h p high);
-        ends = ends_more left (child_before es i) bs f.before (ends_take l es i h p) f.ends;
-        begins = begins_more right (child es (suc i)) f.after ys f.begins (begins_drop l es (suc i) p (cases_lt (suc i) (length es)));
-        valid = f.valid;
-        some = λ _. f.some (rw k.stands k.some);
-      }
+      subst (λ (d : Block). Way x s d.level d.entries (option_or (child_before es i) left) (option_or (child es (suc i)) right) × (d.level < suc l)) (same_Some (kids.block c l (to c es i)) d (sym k.stands ∙ st)) (
+        record {
+          sound = k.sound;
+          before = w.before ++ bs;
+          after = ys ++ w.after;
+          cut = w.cut ∙ ap (λ (z : List (ℕ × ℕ)). w.before ++ (z ++ w.after)) (split c l es i h) ∙ around w.before bs (rows_in c l (inside c (to c es i))) ys w.after;
+          low = All-append _ w.before bs w.low (rows_before c l s es i h w.sound past);
+          high = All-append _ ys w.after (rows_after c l s es i h w.sound high) w.high;
+          ends = ends_more (child_before es i) left w.before bs w.ends (ends_take l es i h w.sound);
+          begins = begins_more (child es (suc i)) right ys w.after (begins_drop l es (suc i) w.sound (cases_lt (suc i) (length es))) w.begins;
+          some = λ _. k.some;
+        },
+        omega arith,
+      )
 
-  pub found_here : (n x s : ℕ) (es : List (ℕ × ℕ)) → n ≡ 0 → block_in (c x) ≡ Some (record { level = n; entries = es }) → Sound c n es → Found c x s es None None
-  found_here zero x s es e st p = found_leaf x s es st p
-  found_here (suc l) x s es e st p = absurd (omega (arith, e))
+  pub way_end : (x s n : ℕ) (es : List (ℕ × ℕ)) (left right : Option ℕ) → n ≡ 0 → Way x s n es left right → Found c x s es left right
+  way_end x s zero es left right e w = record {
+    before = w.before;
+    after = w.after;
+    cut = w.cut ∙ ap (λ (z : List (ℕ × ℕ)). w.before ++ (z ++ w.after)) (leaf c es);
+    low = w.low;
+    high = w.high;
+    ends = w.ends;
+    begins = w.begins;
+    valid = subst (Each Valid) (leaf c es) w.sound.valid;
+    some = w.some;
+  }
+  way_end x s (suc l) es left right e w = absurd (omega (arith, e))
 
   pub some_entries : (n : ℕ) (es : List (ℕ × ℕ)) → 0 < n → Sound c n es → 1 ≤ length es
   some_entries zero es h p = absurd (omega arith)
@@ -111,27 +139,3 @@ module _ (c : ℕ → Content) where
   pub child_full : (n : ℕ) (es : List (ℕ × ℕ)) (i : ℕ) → 0 < n → i < length es → Sound c n es → FullAt c (to c es i) × (suc (level_of (block_in (c (to c es i)))) ≡ n)
   child_full zero es i u h p = absurd (omega arith)
   child_full (suc l) es i u h p = let k = kids.child c l es i h p in (k.full, ap (λ (b : Option Block). suc (level_of b)) k.stands)
-
-  pub found_above : (n x s : ℕ) (es : List (ℕ × ℕ)) (i : ℕ) → 0 < n → block_in (c x) ≡ Some (record { level = n; entries = es }) → Sound c n es → i < length es
-      → ((k : ℕ) → k < i → key c es (suc k) ≤ s) → (suc i < length es → s < key c es (suc i))
-      → (found : List (ℕ × ℕ)) (left right : Option ℕ) → Found c (to c es i) s found left right → Found c x s found (option_or left (child_before es i)) (option_or right (child es (suc i)))
-  found_above zero x s es i u = absurd (omega arith)
-  found_above (suc l) x s es i u = found_index l x s es i
-
-  -- going along the children from place k on: one child more
-  pub rows_next : (n : ℕ) (es : List (ℕ × ℕ)) (k i : ℕ) → 0 < n → k + i < length es → Sound c n es → rows_in c n (take (suc i) (drop k es)) ≡ rows_in c n (take i (drop k es)) ++ rows_at c (to c es (k + i))
-  rows_next zero es k i u h p = absurd (omega arith)
-  rows_next (suc l) es k i u h p =
-      let q = kids.child c l es (k + i) h p in
-      let same : to c (drop k es) i ≡ to c es (k + i) = ap (λ (e : ℕ × ℕ). e.1) (get_or-drop k es i (0, 0)) in
-      rows_more c l (drop k es) i (omega (arith, length-drop k es))
-      ∙ ap (λ (y : ℕ). rows_in c (suc l) (take i (drop k es)) ++ rows_in c l (inside c y)) same ∙ ap (λ (z : List (ℕ × ℕ)). rows_in c (suc l) (take i (drop k es)) ++ z) (sym q.rows)
-
-  -- the rows from a speed on are those of the child that covers it and of those after it
-  pub due_from : (n s : ℕ) (es : List (ℕ × ℕ)) (k : ℕ) → 0 < n → k < length es → Sound c n es → ((j : ℕ) → j < k → key c es (suc j) ≤ s) → due s (map_e angle_of (rows_in c n es)) ≡ due s (map_e angle_of (rows_in c n (drop k es)))
-  due_from zero s es k u h p past = absurd (omega arith)
-  due_from (suc l) s es k u h p past =
-      let xs = rows_in c (suc l) (take k es) in
-      let ys = rows_in c (suc l) (drop k es) in
-      ap (λ (z : List (ℕ × ℕ)). due s (map_e angle_of z)) (rows_split c (suc l) es k) ∙ ap (due s) (map-append angle_of xs ys) ∙ due_append s (map_e angle_of xs) (map_e angle_of ys)
-      ∙ ap (λ (z : List (ℕ × ℤ)). z ++ due s (map_e angle_of ys)) (due_below angle_of s xs (rows_before c l s es k h p past))

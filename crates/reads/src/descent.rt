@@ -1,59 +1,55 @@
 // The way down to a speed.
 ghost use Rattle.std.specs.Prelude.{◌≡◌, ℕ, suc, ◌<◌, length};
 ghost use Rattle.device.specs.Meaning.{current_at};
-ghost use Rattle.page.specs.View.{entries};
 ghost use Rattle.reads.specs.Sound.{SoundAt};
 ghost use Rattle.reads.specs.Descent.{child, child_before, Found};
 
 use counts::Store;
 use device::Device;
-use page::page::Page;
+use page::page_words::PageWords;
 
-// Where a descent to a speed comes to: the leaf, and the nearest blocks on either side of the way down.
-#[derive(Drop)]
-pub struct Place {
-    pub leaf: Page,
+// The nearest blocks on either side of the way down.
+#[derive(Clone, Copy)]
+pub struct Sides {
     pub left: Option<u32>,
     pub right: Option<u32>,
 }
 
-// The child of the entry at a place, if there is one.
-fn child_at(page: &Page, i: usize) -> Option<u32>
-    ensures { result ≡ child (entries page.now) i }
-{
-    page.entries.get(i).map(|entry| entry.value)
-}
-
 // The children on either side of the one at a place.
-fn beside(page: &Page, i: usize) -> (Option<u32>, Option<u32>)
-    requires { i < length page.now.entries.items }
-    ensures left { result.0 ≡ child_before (entries page.now) i }
-    ensures right { result.1 ≡ child (entries page.now) (suc i) }
+fn beside(page: &PageWords, i: usize) -> Sides
+    requires { i < length page.now.entries }
+    ensures left { result.left ≡ child_before page.now.entries i }
+    ensures right { result.right ≡ child page.now.entries (suc i) }
 {
-    let left = if i == 0 { None } else { child_at(page, i - 1) };
-    (left, child_at(page, i + 1))
+    let last = page.len() - 1;
+    Sides {
+        left: if i == 0 { None } else { Some(page.value(i - 1)) },
+        right: if i == last { None } else { Some(page.value(i + 1)) },
+    }
 }
 
-// Down to the leaf that covers a speed: one block a level.
-pub fn descend<D: Device>(store: &mut Store<D>, block: u32, speed: u32) -> Place
+// Down to the leaf that covers a speed, one block a level, each over the one before.
+#[inline(always)]
+pub fn descend<D: Device>(
+    store: &mut Store<D>,
+    block: u32,
+    speed: u32,
+    page: &mut PageWords,
+) -> Sides
     requires { SoundAt (current_at store.old.0) block }
     ensures kept { store.new ≡ store.old }
-    ensures found { Found (current_at store.old.0) block speed (entries result.leaf) result.left result.right }
+    ensures found { Found (current_at store.old.0) block speed page.new.entries result.left result.right }
 {
-    let page = store.read_page(block);
-    if page.level == 0 {
-        return Place {
-            leaf: page,
-            left: None,
-            right: None,
-        };
+    store.load(block, page);
+    let mut left = None;
+    let mut right = None;
+    while page.level() > 0 {
+        let i = page.covering(speed);
+        let nearer = beside(page, i);
+        left = nearer.left.or(left);
+        right = nearer.right.or(right);
+        let child = page.value(i);
+        store.load(child, page);
     }
-    let i = page.covering(speed);
-    let (before, after) = beside(&page, i);
-    let Place { leaf, left, right } = descend(store, page.entries[i].value, speed);
-    Place {
-        leaf,
-        left: left.or(before),
-        right: right.or(after),
-    }
+    Sides { left, right }
 }

@@ -10,11 +10,12 @@ ghost use Rattle.reads.specs.Rows.{rows_on};
 ghost use Rattle.reads.specs.Sound.{Valid, SoundAt, rows_at};
 ghost use Rattle.reads.specs.Lists.{row_in, due, written};
 
+use super::leaf::row_at;
 use counts::Store;
 use device::Device;
-use page::glance::PageWords;
+use page::page_words::PageWords;
 use page::roots::Root;
-use table::{Pair, Row};
+use table::Pair;
 
 // Writes the rows of a leaf from a speed on to a slice, as many as it takes, and answers how many.
 fn list_leaf(leaf: &PageWords, speed: u32, out: &mut [Pair]) -> usize
@@ -24,7 +25,7 @@ fn list_leaf(leaf: &PageWords, speed: u32, out: &mut [Pair]) -> usize
 {
     let mut n = 0;
     for i in 0..leaf.len() {
-        let row = Row::from_stored(leaf.speed(i), leaf.value(i));
+        let row = row_at(leaf, i);
         if row.speed >= speed && n < out.len() {
             out[n] = Pair::from(row);
             n += 1;

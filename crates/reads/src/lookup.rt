@@ -7,15 +7,16 @@ ghost use Rattle.table.specs.Around.{StandsAround};
 ghost use Rattle.tree.specs.Node.{map_e};
 ghost use Rattle.tree.specs.Reads.{look};
 ghost use Rattle.page.specs.View.{root_pair};
-ghost use Rattle.model.specs.TreeBlocks.{GoodOn};
+ghost use Rattle.model.specs.TreeBlocks.{Each, GoodOn};
+ghost use Rattle.reads.specs.Sound.{Valid};
 ghost use Rattle.reads.specs.Rows.{rows_on};
 ghost use Rattle.reads.specs.Descent.{Beside, rows_beside};
 
 use super::descent::descend;
-use super::leaf::rows_of;
+use super::leaf::row_at;
 use counts::Store;
 use device::Device;
-use page::glance::PageWords;
+use page::page_words::PageWords;
 use page::roots::Root;
 use table::{Around, angle_by, stored_angle};
 
@@ -25,14 +26,22 @@ pub fn get<D: Device>(store: &mut Store<D>, root: Root, speed: u32) -> Option<i3
     ensures kept { store.new ≡ store.old }
     ensures answer { result ≡ look speed (rows_on store.old.0 (root_pair root)) }
 {
-    let mut page = PageWords::empty();
-    store.load(root.block, &mut page);
-    while page.level() > 0 {
-        let child = page.value(page.covering(speed));
-        store.load(child, &mut page);
-    }
-    let payload = page.find(speed)?;
+    let mut leaf = PageWords::empty();
+    descend(store, root.block, speed, &mut leaf);
+    let payload = leaf.find(speed)?;
     Some(stored_angle(payload))
+}
+
+// The rows of a leaf on either side of a speed.
+fn around(leaf: &PageWords, speed: u32) -> Around
+    requires { Each Valid leaf.now.entries }
+    ensures { StandsAround speed (map_e angle_of leaf.now.entries) result }
+{
+    let mut around = Around::default();
+    for i in 0..leaf.len() {
+        around = around.with(row_at(leaf, i), speed);
+    }
+    around
 }
 
 // Of the rows of a block, if there is one, that are all on one side of a speed: the row that is nearest to it.
@@ -41,10 +50,12 @@ fn nearest<D: Device>(store: &mut Store<D>, block: Option<u32>, speed: u32) -> A
     ensures kept { store.new ≡ store.old }
     ensures nearest { StandsAround speed (map_e angle_of (rows_beside (current_at store.old.0) block)) result }
 {
-    match block {
-        Some(block) => Around::of(&rows_of(&descend(store, block, speed).leaf), speed),
-        None => Around::default(),
-    }
+    let Some(block) = block else {
+        return Around::default();
+    };
+    let mut leaf = PageWords::empty();
+    descend(store, block, speed, &mut leaf);
+    around(&leaf, speed)
 }
 
 // The angle at a speed, if there is a row. The leaf that covers the speed has a row on one side of it at least, so of the other
@@ -54,11 +65,12 @@ pub fn at<D: Device>(store: &mut Store<D>, root: Root, speed: u32) -> Option<i32
     ensures kept { store.new ≡ store.old }
     ensures answer { result ≡ angle_at speed (rows_on store.old.0 (root_pair root)) }
 {
-    let place = descend(store, root.block, speed);
-    let Around { below, above } = Around::of(&rows_of(&place.leaf), speed);
+    let mut leaf = PageWords::empty();
+    let sides = descend(store, root.block, speed, &mut leaf);
+    let Around { below, above } = around(&leaf, speed);
     match (below, above) {
-        (None, above) => angle_by(nearest(store, place.left, speed).below, above, speed),
-        (below, None) => angle_by(below, nearest(store, place.right, speed).above, speed),
+        (None, above) => angle_by(nearest(store, sides.left, speed).below, above, speed),
+        (below, None) => angle_by(below, nearest(store, sides.right, speed).above, speed),
         (below, above) => angle_by(below, above, speed),
     }
 }

@@ -9,11 +9,12 @@ ghost use Rattle.reads.specs.Rows.{rows_on};
 ghost use Rattle.reads.specs.Summary.{summary_of};
 ghost use Rattle.reads.specs.Sound.{Valid, SoundAt, rows_at};
 
+use super::leaf::row_at;
 use counts::Store;
 use device::Device;
-use page::glance::PageWords;
+use page::page_words::PageWords;
 use page::roots::Root;
-use table::{Row, Summary};
+use table::Summary;
 
 // The summary of the rows of a leaf.
 fn sum_leaf<S: Summary>(leaf: &PageWords) -> S
@@ -22,7 +23,7 @@ fn sum_leaf<S: Summary>(leaf: &PageWords) -> S
 {
     let mut sum = S::empty();
     for i in 0..leaf.len() {
-        sum = sum.join(S::of_row(Row::from_stored(leaf.speed(i), leaf.value(i))));
+        sum = sum.join(S::of_row(row_at(leaf, i)));
     }
     sum
 }

@@ -9,8 +9,7 @@ use Rattle.tree.proofs.Over.{map-append}
 use Rattle.reads.specs.Sound.{SoundAt, rows_at, rows_in}
 use Rattle.reads.specs.Lists.{due, written}
 use Rattle.reads.specs.Summary.{summary_of}
-use Rattle.reads.proofs.Blocks.{here, leaf_rows, leaf_valid, next_of, due_before, entry_more, row_at}
-use Rattle.reads.proofs.Pages.{readable}
+use Rattle.reads.proofs.Blocks.{here, readable, leaf_rows, leaf_valid, next_of, due_before}
 use Rattle.reads.proofs.Places.{some_entries}
 use Rattle.reads.proofs.Totals.{summary-append, summary-push}
 use Rattle.reads.proofs.Written.{due_append, both, empty_slice}

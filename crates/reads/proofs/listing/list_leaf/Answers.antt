@@ -3,7 +3,7 @@ use Rattle.table.specs.declared.pair.Pair.{Pair}
 use Rattle.table.specs.Rows.{pair_of, angle_of}
 use Rattle.tree.specs.Node.{map_e}
 use Rattle.reads.specs.Lists.{due, written, pair_for}
-use Rattle.reads.proofs.Blocks.{entry_more, row_at}
+use Rattle.reads.proofs.Blocks.{entry_more}
 use Rattle.reads.proofs.Written.{length_written, written_one, written_full, due_append, due_one, due_not}
 use Rattle.reads.proofs.listing.list_leaf.Goals.{then-row-speed+then-n-out, else-row-speed, else-row-speed-via-then-row-speed+else-n-out, else-row-speed-via-else-row-speed}
 use Rattle.reads.proofs.listing.list_leaf.Goals as goal
@@ -53,12 +53,12 @@ loop-i-preserved c =
     let s = c.args.speed in
     let es = c.args.leaf.now.entries in
     let i = c.loop-i.i in
-    let row = c.from_stored-row.result in
+    let row = c.row_at-row.result in
     let n = c.loop-i.n in
     let out = c.loop-i.out in
     let first = c.args.out.now in
     let within : i < length es = omega (arith, c.loop-i-test.true, c.len-i-end.ensures.len) in
-    let is = row_at row c.speed.result c.value.result es i c.from_stored-row.ensures.row c.speed.ensures.is c.value.ensures.is in
+    let is = c.row_at-row.ensures in
     let f : Filled (due s (map_e angle_of (take i es))) first n out = record { count = c.loop-i.invariant.count; listed = c.loop-i.invariant.listed } in
     let more = due s (map_e angle_of (take (i + 1) es)) in
     let done : Filled more first c.if-row-speed.n c.if-row-speed.out = elim c.if-row-speed.branch [

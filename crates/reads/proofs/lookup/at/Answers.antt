@@ -14,22 +14,18 @@ use Rattle.reads.proofs.Good.{start}
 use Rattle.reads.proofs.Near.{beside_left, beside_right, up_by, past_by, past_alone, up_alone}
 use Rattle.reads.proofs.lookup.at.Goals as goal
 
-pub descend-place-requires : goal.descend-place-requires
-descend-place-requires g c = (start c.args.store.now.0 c.args.root.height c.args.root.block c.requires).sound
+pub descend-sides-requires : goal.descend-sides-requires
+descend-sides-requires g c = (start c.args.store.now.0 c.args.root.height c.args.root.block c.requires).sound
 
 pub nearest-requires-in_default-None : goal.nearest-requires-in_default-None
 nearest-requires-in_default-None g c =
-    subst (λ (q : Meaning × List ℕ). Beside (current_at q.0) c.args.speed c.descend-place.result.right) (sym c.descend-place.ensures.kept)
-    (beside_right (current_at c.args.store.now.0) c.args.root.block c.args.speed (entries c.descend-place.result.leaf) _ _ c.descend-place.ensures.found)
+    subst (λ (q : Meaning × List ℕ). Beside (current_at q.0) c.args.speed c.descend-sides.result.right) (sym c.descend-sides.ensures.kept)
+    (beside_right (current_at c.args.store.now.0) c.args.root.block c.args.speed c.descend-sides.new.page.entries _ _ c.descend-sides.ensures.found)
 
 pub nearest-requires : goal.nearest-requires
 nearest-requires g c =
-    subst (λ (q : Meaning × List ℕ). Beside (current_at q.0) c.args.speed c.descend-place.result.left) (sym c.descend-place.ensures.kept)
-    (beside_left (current_at c.args.store.now.0) c.args.root.block c.args.speed (entries c.descend-place.result.leaf) _ _ c.descend-place.ensures.found)
-
--- what stands on either side among the rows read from a leaf
-beside : (leaf : List (ℕ × ℕ)) (xs ys : List Row) (s : ℕ) (x : Around) → xs ≡ ys → map pair_of ys ≡ map_e angle_of leaf → StandsAround s (map pair_of xs) x → StandsAround s (map_e angle_of leaf) x
-beside leaf xs ys s x e q = subst (λ (rs : List (ℕ × ℤ)). StandsAround s rs x) (ap (map pair_of) e ∙ q)
+    subst (λ (q : Meaning × List ℕ). Beside (current_at q.0) c.args.speed c.descend-sides.result.left) (sym c.descend-sides.ensures.kept)
+    (beside_left (current_at c.args.store.now.0) c.args.root.block c.args.speed c.descend-sides.new.page.entries _ _ c.descend-sides.ensures.found)
 
 -- the angle by the nearest rows of the whole
 by_rows : (rows all : List (ℕ × ℤ)) (s : ℕ) (before after : Option (ℕ × ℤ)) (a : Option ℤ) → a ≡ angle_by before after s → rows ≡ all → up_to s all ≡ before → past s all ≡ after → a ≡ angle_at s rows
@@ -45,11 +41,11 @@ returns-in_default-clause-answer g c =
     let m = c.args.store.now.0 in
     let s = c.args.speed in
     let x = c.args.root.block in
-    let leaf = entries c.descend-place.result.leaf in
-    let f = c.descend-place.ensures.found in
-    let around : StandsAround s (map_e angle_of leaf) c.of-below.result = beside leaf c.deref.result.now _ s c.of-below.result c.deref.ensures.0 c.rows_of.ensures c.of-below.ensures in
-    let b = that c.of-below.result.below c.in_default.not-None-0 in
-    let a = that c.of-below.result.above c.in_default.not-None-1 in
+    let leaf = c.descend-sides.new.page.entries in
+    let f = c.descend-sides.ensures.found in
+    let around : StandsAround s (map_e angle_of leaf) c.around-below.result = c.around-below.ensures in
+    let b = that c.around-below.result.below c.in_default.not-None-0 in
+    let a = that c.around-below.result.above c.in_default.not-None-1 in
     let up : up_to s (map_e angle_of leaf) ≡ Some (pair_of b.0) = sym around.0 ∙ ap (option_map pair_of) b.1 in
     let first : past s (map_e angle_of leaf) ≡ Some (pair_of a.0) = sym around.1 ∙ ap (option_map pair_of) a.1 in
     by_rows _ (map_e angle_of (rows_at (current_at m) x)) s (Some (pair_of b.0)) (Some (pair_of a.0)) c.angle_by-in_default.result
@@ -61,13 +57,13 @@ returns-in_default-None-clause-answer g c =
     let m = c.args.store.now.0 in
     let s = c.args.speed in
     let x = c.args.root.block in
-    let leaf = entries c.descend-place.result.leaf in
-    let right = c.descend-place.result.right in
-    let f = c.descend-place.ensures.found in
-    let around : StandsAround s (map_e angle_of leaf) c.of-below.result = beside leaf c.deref.result.now _ s c.of-below.result c.deref.ensures.0 c.rows_of.ensures c.of-below.ensures in
+    let leaf = c.descend-sides.new.page.entries in
+    let right = c.descend-sides.result.right in
+    let f = c.descend-sides.ensures.found in
+    let around : StandsAround s (map_e angle_of leaf) c.around-below.result = c.around-below.ensures in
     let first : past s (map_e angle_of leaf) ≡ None = sym around.1 ∙ ap (option_map pair_of) c.in_default-None.is-1 in
     let near : past s (map_e angle_of (rows_beside (current_at m) right)) ≡ option_map pair_of c.nearest-in_default-None.result.above
-    = sym (c.nearest-in_default-None.ensures.nearest.1 ∙ ap (λ (q : Meaning × List ℕ). past s (map_e angle_of (rows_beside (current_at q.0) right))) c.descend-place.ensures.kept) in
+    = sym (c.nearest-in_default-None.ensures.nearest.1 ∙ ap (λ (q : Meaning × List ℕ). past s (map_e angle_of (rows_beside (current_at q.0) right))) c.descend-sides.ensures.kept) in
     by_rows _ _ s _ _ c.angle_by-in_default-None.result c.angle_by-in_default-None.ensures (start m c.args.root.height x c.requires).rows
     (up_alone angle_of (current_at m) s x leaf _ _ f first ∙ sym around.0) (past_by angle_of (current_at m) s x leaf _ _ f ∙ rw first near)
 
@@ -76,12 +72,12 @@ returns-in-None-default-clause-answer g c =
     let m = c.args.store.now.0 in
     let s = c.args.speed in
     let x = c.args.root.block in
-    let leaf = entries c.descend-place.result.leaf in
-    let left = c.descend-place.result.left in
-    let f = c.descend-place.ensures.found in
-    let around : StandsAround s (map_e angle_of leaf) c.of-below.result = beside leaf c.deref.result.now _ s c.of-below.result c.deref.ensures.0 c.rows_of.ensures c.of-below.ensures in
+    let leaf = c.descend-sides.new.page.entries in
+    let left = c.descend-sides.result.left in
+    let f = c.descend-sides.ensures.found in
+    let around : StandsAround s (map_e angle_of leaf) c.around-below.result = c.around-below.ensures in
     let up : up_to s (map_e angle_of leaf) ≡ None = sym around.0 ∙ ap (option_map pair_of) c.in-None-default.is-0 in
     let near : up_to s (map_e angle_of (rows_beside (current_at m) left)) ≡ option_map pair_of c.nearest.result.below
-    = sym (c.nearest.ensures.nearest.0 ∙ ap (λ (q : Meaning × List ℕ). up_to s (map_e angle_of (rows_beside (current_at q.0) left))) c.descend-place.ensures.kept) in
+    = sym (c.nearest.ensures.nearest.0 ∙ ap (λ (q : Meaning × List ℕ). up_to s (map_e angle_of (rows_beside (current_at q.0) left))) c.descend-sides.ensures.kept) in
     by_rows _ _ s _ _ c.angle_by.result c.angle_by.ensures (start m c.args.root.height x c.requires).rows
     (up_by angle_of (current_at m) s x leaf _ _ f ∙ rw up near) (past_alone angle_of (current_at m) s x leaf _ _ f up ∙ sym around.1)

@@ -1,65 +1,44 @@
-use Rattle.std.proofs.Common.{◌≡◌, ℕ, ◌<◌, List, is_some, Some, w32, FitsSigned, sym, refl, ap, ◌∙◌, subst, arith, rules}
+use Rattle.std.proofs.Common.{◌≡◌, ℕ, ◌≤◌, Bool, true, false, cond, eqb, List, [], ◌∷◌, None, Some, Option, w32, FitsSigned, sym, ap, ◌∙◌, arith, rules}
 use Rattle.std.specs.Option.{option_map}
 use Rattle.std.proofs.lemmas.Int.{to_z-of_z}
+use Rattle.std.proofs.lemmas.Option.{none-some, same_Some}
 use Rattle.device.specs.Meaning.{Meaning, current_at}
-use Rattle.page.specs.Block.{Block, block_at}
 use Rattle.table.specs.Rows.{angle_of}
-use Rattle.reads.specs.Sound.{SoundAt}
+use Rattle.tree.specs.Reads.{look}
+use Rattle.model.specs.TreeBlocks.{Each, GoodOn}
+use Rattle.reads.specs.Rows.{rows_on}
+use Rattle.reads.specs.Sound.{Valid, rows_at}
+use Rattle.reads.specs.Descent.{Found}
 use Rattle.reads.proofs.Good.{start}
-use Rattle.reads.proofs.Pages.{readable}
-use Rattle.reads.proofs.Down.{Down, down_start, down_there, down_step, down_some, down_end, down_answer, look_valid}
-use Rattle.reads.proofs.lookup.get.Given.{Over}
+use Rattle.reads.proofs.Near.{look_found, look_map}
 use Rattle.reads.proofs.lookup.get.Goals as goal
 
-pub load-requires : goal.load-requires
-load-requires g c = readable c.args.store.now.0 c.args.root.block (start c.args.store.now.0 c.args.root.height c.args.root.block c.requires).sound
+pub descend-requires : goal.descend-requires
+descend-requires g c = (start c.args.store.now.0 c.args.root.height c.args.root.block c.requires).sound
 
-pub loop-page-init : goal.loop-page-init
-loop-page-init g c = record {
-  kept = c.load.ensures.kept;
-  down = down_start c.args.store.now.0 c.args.root.block c.args.speed c.load.new.page (start c.args.store.now.0 c.args.root.height c.args.root.block c.requires).sound c.load.ensures.page;
-}
+-- what is looked up in the leaf is the answer
+found_row : (m : Meaning) (h x s : ℕ) (leaf : List (ℕ × ℕ)) (left right : Option ℕ) → GoodOn m (h, x) → Found (current_at m) x s leaf left right → option_map angle_of (look s leaf) ≡ look s (rows_on m (h, x))
+found_row m h x s leaf left right good f =
+    ap (option_map angle_of) (sym (look_found (current_at m) x s leaf left right f)) ∙ sym (look_map angle_of s (rows_at (current_at m) x)) ∙ ap (look s) (sym (start m h x good).rows)
 
-pub covering-requires : goal.covering-requires
-covering-requires g c = omega (arith, down_some c.args.store.now.0 c.args.root.block c.args.speed c.loop-page.page c.loop-page.invariant.down (omega (arith, c.loop-page-test.true, c.level.ensures.level)))
+by_head : (s v : ℕ) (x : ℕ × ℕ) (r : List (ℕ × ℕ)) (t : Bool) → x.1 ≤ 18000 → (look s r ≡ Some v → v ≤ 18000) → cond t (Some x.1) (look s r) ≡ Some v → v ≤ 18000
+by_head s v x r true h g e = omega (arith, same_Some x.1 v e, h)
+by_head s v x r false h g e = g e
 
-pub load-requires-in-loop-page : goal.load-requires-in-loop-page
-load-requires-in-loop-page g c =
-    ap (λ (q : Meaning × List ℕ). is_some (block_at q.0 c.value-child.result)) c.loop-page.invariant.kept
-    ∙ down_there c.args.store.now.0 c.args.root.block c.args.speed c.loop-page.page c.covering.result c.value-child.result c.loop-page.invariant.down
-    (omega (arith, c.loop-page-test.true, c.level.ensures.level)) c.covering.ensures.within c.value-child.ensures.is
-
--- one block further down
-next : (g : Over) (c : goal.After-load-in-loop-page g) → Down c.args.store.now.0 c.args.root.block c.args.speed c.load-in-loop-page.new.page × (c.load-in-loop-page.new.page.level < c.loop-page.page.level)
-next g c =
-    down_step c.args.store.now.0 c.args.root.block c.args.speed c.loop-page.page c.covering.result c.value-child.result c.loop-page.invariant.down
-    (omega (arith, c.loop-page-test.true, c.level.ensures.level)) c.covering.ensures.within c.value-child.ensures.is c.covering.ensures.past c.covering.ensures.high c.load-in-loop-page.new.page
-    (ap (λ (q : Meaning × List ℕ). block_at q.0 c.value-child.result) (sym c.loop-page.invariant.kept) ∙ c.load-in-loop-page.ensures.page)
-
-pub loop-page-smaller : goal.loop-page-smaller
-loop-page-smaller g c = (next g c).1
-
-pub loop-page-preserved : goal.loop-page-preserved
-loop-page-preserved g c = record { kept = c.load-in-loop-page.ensures.kept ∙ c.loop-page.invariant.kept; down = (next g c).0 }
-
-pub returns-in_err-payload-clause-kept : goal.returns-in_err-payload-clause-kept
-returns-in_err-payload-clause-kept g c = c.loop-page.invariant.kept
+look_valid : (s v : ℕ) (es : List (ℕ × ℕ)) → Each Valid es → look s es ≡ Some v → v ≤ 18000
+look_valid s v [] a e = absurd (none-some v e)
+look_valid s v (x ∷ r) a e = by_head s v x r (eqb s x.0) a.0.1 (λ q. look_valid s v r a.1 q) e
 
 pub returns-in_err-payload-clause-answer : goal.returns-in_err-payload-clause-answer
 returns-in_err-payload-clause-answer g c =
     c.from_residual.ensures ∙ ap (option_map angle_of) (sym c.in_err-payload.was ∙ c.find.ensures)
-    ∙ down_answer c.args.store.now.0 c.args.root.height c.args.root.block c.args.speed c.loop-page.page c.requires c.loop-page.invariant.down (omega (arith, c.level.ensures.level, c.loop-page-test.false))
+    ∙ found_row c.args.store.now.0 c.args.root.height c.args.root.block c.args.speed c.descend.new.page.entries _ _ c.requires c.descend.ensures.found
 
 pub stored_angle-requires : goal.stored_angle-requires
-stored_angle-requires g c =
-    let e = down_end c.args.store.now.0 c.args.root.block c.args.speed c.loop-page.page c.loop-page.invariant.down (omega (arith, c.level.ensures.level, c.loop-page-test.false)) in
-    omega (arith, look_valid c.args.speed c.in_ok-payload.payload c.loop-page.page.entries e.1 (sym c.find.ensures ∙ c.in_ok-payload.was))
-
-pub returns-clause-kept : goal.returns-clause-kept
-returns-clause-kept g c = c.loop-page.invariant.kept
+stored_angle-requires g c = omega (arith, look_valid c.args.speed c.in_ok-payload.payload c.descend.new.page.entries c.descend.ensures.found.valid (sym c.find.ensures ∙ c.in_ok-payload.was))
 
 pub returns-clause-answer : goal.returns-clause-answer
 returns-clause-answer g c =
     let fits : FitsSigned w32 c.stored_angle.result = search rules in
     ap Some (to_z-of_z w32 c.stored_angle.result fits ∙ c.stored_angle.ensures) ∙ ap (option_map angle_of) (sym c.in_ok-payload.was ∙ c.find.ensures)
-    ∙ down_answer c.args.store.now.0 c.args.root.height c.args.root.block c.args.speed c.loop-page.page c.requires c.loop-page.invariant.down (omega (arith, c.level.ensures.level, c.loop-page-test.false))
+    ∙ found_row c.args.store.now.0 c.args.root.height c.args.root.block c.args.speed c.descend.new.page.entries _ _ c.requires c.descend.ensures.found

@@ -2,7 +2,7 @@ use Rattle.std.proofs.Common.{◌≡◌, ℕ, ◌+◌, ◌<◌, length, get_or, 
 use Rattle.table.specs.Rows.{angle_of}
 use Rattle.tree.specs.Node.{map_e}
 use Rattle.reads.specs.Summary.{summary_of}
-use Rattle.reads.proofs.Blocks.{entry_more, row_at}
+use Rattle.reads.proofs.Blocks.{entry_more}
 use Rattle.reads.proofs.Totals.{summary-push}
 use Rattle.reads.proofs.summing.sum_leaf.Goals as goal
 
@@ -13,6 +13,5 @@ loop-i-preserved g c =
     let es = c.args.leaf.now.entries in
     let i = c.loop-i.i in
     let within : i < length es = omega (arith, c.loop-i-test.true, c.len-i-end.ensures.len) in
-    let is = row_at c.from_stored.result c.speed.result c.value.result es i c.from_stored.ensures.row c.speed.ensures.is c.value.ensures.is in
-    c.join-sum.ensures ∙ ap₂ s.summing.joined c.loop-i.invariant (c.of_row.ensures ∙ ap (λ (q : ℕ × ℤ). s.summing.value_of q.0 q.1) is)
+    c.join-sum.ensures ∙ ap₂ s.summing.joined c.loop-i.invariant (c.of_row.ensures ∙ ap (λ (q : ℕ × ℤ). s.summing.value_of q.0 q.1) c.row_at.ensures)
     ∙ sym (ap (summary_of s.summing) (entry_more es i within) ∙ summary-push s.summing w.none_before w.none_after w.associates (map_e angle_of (take i es)) (get_or es i (0, 0)).0 (angle_of (get_or es i (0, 0)).1))
