@@ -1,5 +1,5 @@
 -- A cut below the check layer is a cut of it.
-use Rattle.std.proofs.Common.{ℕ, ◌-◌, ◌<◌, ◌≤◌, map, get_or, sym, ap, ◌∙◌, subst, arith}
+use Rattle.std.proofs.Common.{◌-◌, ◌<◌, ◌≤◌, map, get_or, sym, ap, ◌∙◌, subst, arith}
 use Rattle.std.proofs.lemmas.List.{length-map, get_or-map}
 use Rattle.device.specs.Meaning.{Meaning, Cut, CutCell, flushed, no_cell, blocks_of, cell_at}
 use Rattle.device.proofs.Cuts.{cut_flushed}

@@ -15,12 +15,12 @@ checked_flushed m = ap with_cells (mapped_flush (checked_content (m.width - 1)) 
     with_cells cs = record { width = m.width - 1; cells = cs; left = m.left; left_mark = raised m.left_mark }
 
 -- words with their check show as those words
-content_written : (w : ℕ) (ws : List ℕ) → length ws ≡ w → checked_content w (words (with_check ws)) ≡ words ws
+pub content_written : (w : ℕ) (ws : List ℕ) → length ws ≡ w → checked_content w (words (with_check ws)) ≡ words ws
 content_written w ws e = rw (get_or_at ws (check_of ws) [] 0 w e, take_at ws (check_of ws ∷ []) w e, eq-eqb (check_of ws) (check_of ws) refl)
 
 -- what the calls answer at a block that is there, by the block below
 module _ (m : Meaning) (b n : ℕ) (h : b < blocks_of m) (e : n ≡ m.width - 1) where
-  cell_checked : cell_at (checked m) b ≡ checked_cell (m.width - 1) (cell_at m b)
+  pub cell_checked : cell_at (checked m) b ≡ checked_cell (m.width - 1) (cell_at m b)
   cell_checked = get_or-map (checked_cell (m.width - 1)) m.cells b no_cell no_cell h
 
 -- after a write below

@@ -1,7 +1,43 @@
--- What a cut leaves is flushed already.
-use Rattle.std.proofs.Common.{◌≡◌, ℕ, ◌<◌, List, map, get_or, sym, ap, ◌∙◌, arith}
-use Rattle.std.proofs.lemmas.List.{same_lists, length-map, get_or-map, get_or_default}
-use Rattle.device.specs.Meaning.{Meaning, Cell, Content, Cut, CutCell, flushed, flushed_cell, no_cell, blocks_of}
+-- What a cut leaves, by the mark; what it leaves is flushed already; and cuts before and after a call.
+use Rattle.std.proofs.Common.{◌≡◌, ℕ, ◌<◌, ◌≤◌, ◌⊎◌, List, map, get_or, sym, refl, ap, ◌∙◌, subst, inl, inr, ⊎_elim, arith}
+use Rattle.std.proofs.lemmas.Bool.{cases_eq}
+use Rattle.std.proofs.lemmas.List.{same_lists, length-map, length-set, get_or-map, get_or_default}
+use Rattle.std.proofs.ByRecursion.{All-get_or}
+use Rattle.device.specs.Meaning.{Meaning, Cell, Content, Held, Lawful, LawfulCell, Cut, CutCell, CutTo, flushed, flushed_cell, written, written_cell, no_cell, blocks_of, cell_at}
+use Rattle.device.proofs.Choices.{flush_at, write_at, write_off}
+
+-- what a cut leaves, by the mark
+module _ (w : ℕ) (c : Cell) (x : Content) where
+  pub clean : CutTo w c x → c.mark ≡ 0 → x ≡ c.current
+  clean t z = ⊎_elim (λ h. h.1) (⊎_elim (λ h. absurd (omega (arith, h.0))) (λ h. absurd (omega (arith, h.0)))) t
+
+  pub once : CutTo w c x → c.mark ≡ 1 → (x ≡ c.persisted) ⊎ (x ≡ c.current)
+  once t z = ⊎_elim (λ h. absurd (omega (arith, h.0))) (⊎_elim (λ h. h.1) (λ h. absurd (omega (arith, h.0)))) t
+
+  pub often : CutTo w c x → 2 ≤ c.mark → Held w x
+  often t z = ⊎_elim (λ h. absurd (omega (arith, h.0))) (⊎_elim (λ h. absurd (omega (arith, h.0))) (λ h. h.1)) t
+
+  pub any : LawfulCell w c → CutTo w c x → Held w x
+  any l =
+      ⊎_elim
+      (λ h. subst (Held w) (sym h.1) l.current)
+      (⊎_elim (λ h. ⊎_elim (λ e. subst (Held w) (sym e) l.persisted) (λ e. subst (Held w) (sym e) l.current) h.1) (λ h. h.1))
+
+-- a cut of what a cut left
+pub cut_again : (m n p : Meaning) → Cut m n → Cut n p → Cut m p
+cut_again m n p k l = record {
+  width = l.width ∙ k.width;
+  blocks = l.blocks ∙ k.blocks;
+  cells = λ b h.
+      let c = k.cells b h in
+      let d : CutCell m.width (cell_at n b) (cell_at p b) = subst (λ w. CutCell w (cell_at n b) (cell_at p b)) k.width (l.cells b (omega (arith, k.blocks))) in
+      record {
+        mark = d.mark;
+        equal = d.equal;
+        from = subst (CutTo m.width (cell_at m b)) (sym (clean m.width (cell_at n b) (cell_at p b).current d.from c.mark)) c.from;
+      };
+  left = l.left;
+}
 
 still : (w : ℕ) (c d : Cell) → CutCell w c d → flushed_cell d ≡ d
 still w c d k = ap (λ x. make x 0) (sym k.equal) ∙ ap (make d.persisted) (sym k.mark)
@@ -19,3 +55,61 @@ cut_flushed m n k = ap (λ (cs : List Cell). with_cells cs)
   where
     with_cells : List Cell → Meaning
     with_cells cs = record { width = n.width; cells = cs; left = n.left; left_mark = n.left_mark }
+
+-- A write that has not begun counts as done, and a flush that is done as not begun.
+unbegun : (w : ℕ) (ws : List ℕ) (c : Cell) (x : Content) → LawfulCell w c → CutTo w c x → CutTo w (written_cell ws c) x
+unbegun w ws c x l t =
+    ⊎_elim
+    (λ (z : c.mark ≡ 0). inr (inl (omega (arith, z), inl (clean w c x t z ∙ sym (l.clean z)))))
+    (λ (nz : c.mark ≡ 0 → ⊥). inr (inr (omega arith, any w c x l t)))
+    (cases_eq c.mark 0)
+
+pub cut_unwritten : (m n : Meaning) (b : ℕ) (ws : List ℕ) → Lawful m → Cut m n → Cut (written m b ws) n
+cut_unwritten m n b ws l k =
+    let e = length-set m.cells b (written_cell ws (cell_at m b)) in
+    record {
+      width = k.width;
+      blocks = k.blocks ∙ sym e;
+      cells = λ i h.
+          let i< : i < blocks_of m = omega (arith, e) in
+          let d = k.cells i i< in
+          ⊎_elim
+          (λ (z : i ≡ b).
+          subst (λ c. CutCell m.width c (cell_at n i)) (sym (subst (λ j. cell_at (written m b ws) j ≡ written_cell ws (cell_at m j)) (sym z) (write_at m b ws (omega (arith, z)))))
+          (record {
+            mark = d.mark;
+            equal = d.equal;
+            from = unbegun m.width ws (cell_at m i) (cell_at n i).current (All-get_or (LawfulCell m.width) m.cells i no_cell i< l.cells) d.from;
+          }))
+          (λ (ne : i ≡ b → ⊥). subst (λ c. CutCell m.width c (cell_at n i)) (sym (write_off m b i ws ne)) d)
+          (cases_eq i b);
+      left = k.left;
+    }
+
+settled : (w : ℕ) (c : Cell) (x : Content) → LawfulCell w c → x ≡ c.current → CutTo w c x
+settled w c x l e =
+    ⊎_elim
+    (λ (z : c.mark ≡ 0). inl (z, e))
+    (λ (nz : c.mark ≡ 0 → ⊥).
+    ⊎_elim
+    (λ (o : c.mark ≡ 1). inr (inl (o, inr e)))
+    (λ (no : c.mark ≡ 1 → ⊥). inr (inr (omega arith, subst (Held w) (sym e) l.current)))
+    (cases_eq c.mark 1))
+    (cases_eq c.mark 0)
+
+pub cut_unflushed : (m n : Meaning) → Lawful m → Cut (flushed m) n → Cut m n
+cut_unflushed m n l k =
+    let e = length-map m.cells flushed_cell in
+    record {
+      width = k.width;
+      blocks = k.blocks ∙ e;
+      cells = λ i h.
+          let d : CutCell m.width (flushed_cell (cell_at m i)) (cell_at n i) = subst (λ c. CutCell m.width c (cell_at n i)) (flush_at m i) (k.cells i (omega (arith, e))) in
+          record {
+            mark = d.mark;
+            equal = d.equal;
+            from = settled m.width (cell_at m i) (cell_at n i).current (All-get_or (LawfulCell m.width) m.cells i no_cell h l.cells)
+                (clean m.width (flushed_cell (cell_at m i)) (cell_at n i).current d.from refl);
+          };
+      left = k.left;
+    }

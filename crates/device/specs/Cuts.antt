@@ -1,5 +1,5 @@
 -- A cut of the power as a function of what it chooses; the device calls of a call, replayed.
-use Rattle.std.specs.Prelude.{◌≡◌, ℕ, zero, suc, ◌<◌, ◌≤◌, List, [], ◌∷◌}
+use Rattle.std.specs.Prelude.{◌≡◌, ℕ, zero, suc, ◌<◌, ◌≤◌, Bool, true, false, List, [], ◌∷◌}
 use Rattle.device.specs.declared.LayerMark.{LayerMark}
 use Rattle.device.specs.Meaning.{Content, Cell, Meaning, blocks_of, written, flushed, Held, Lawful, Cut}
 
@@ -21,6 +21,12 @@ pub data Choice : Type 0 where
   old : Choice
   new : Choice
   other : Content → Choice
+
+-- is what was persisted kept?
+abbrev pub keeps_old : Choice → Bool
+keeps_old old = true
+keeps_old new = false
+keeps_old (other x) = false
 
 pub record Cutting : Type 0 where
   pub choice : ℕ → Choice

@@ -16,7 +16,7 @@ module _ (V : Type 0) (join : ℕ → Map → V) (w : Mode) (m : Meaning) (e : E
       → Formatted d → Each legal ts → legal t → first t ≡ e
       → Run V join (mounted bare) d (map first ts) → Ends (mounted bare) d (map first ts) w m
       → Run V join (mounted bare) d (map second ts) → Ends (mounted bare) d (map second ts) w₂ m₂ → Run V join w₂ m₂ (second t ∷ [])
-      → Agree V clear d (ts ++ t ∷ [])
+      → Agree V clear d d (ts ++ t ∷ [])
 
   -- for one run and for two
   abbrev pub Law : Type 0

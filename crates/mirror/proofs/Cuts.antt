@@ -3,44 +3,11 @@ use Rattle.std.proofs.Common.{◌≡◌, ℕ, ◌<◌, ◌≤◌, ◌⊎◌, Lis
 use Rattle.std.proofs.lemmas.Bool.{cases_eq}
 use Rattle.std.proofs.lemmas.List.{length-set, length-map}
 use Rattle.device.specs.Meaning.{Meaning, Cell, Content, words, damaged, Cut, CutCell, CutTo, Held, Lawful, LawfulCell, written, written_cell, flushed, flushed_cell, blocks_of, cell_at}
-use Rattle.device.proofs.Cuts.{cut_flushed}
+use Rattle.device.proofs.Cuts.{clean, once, often, any, cut_flushed, cut_again}
 use Rattle.device.proofs.Choices.{flush_at, write_at, write_off}
 use Rattle.mirror.specs.Mirrored.{Alike, One, mirrored, mirrored_cell, both_at, pick, mirrored_blocks, held_pick, first_lawful, second_lawful}
 use Rattle.mirror.specs.Cuts.{CutsKept}
 use Rattle.mirror.proofs.Follows.{cell_mirrored, moved}
-
--- what a cut leaves, by the mark
-module _ (w : ℕ) (c : Cell) (x : Content) where
-  clean : CutTo w c x → c.mark ≡ 0 → x ≡ c.current
-  clean t z = ⊎_elim (λ h. h.1) (⊎_elim (λ h. absurd (omega (arith, h.0))) (λ h. absurd (omega (arith, h.0)))) t
-
-  once : CutTo w c x → c.mark ≡ 1 → (x ≡ c.persisted) ⊎ (x ≡ c.current)
-  once t z = ⊎_elim (λ h. absurd (omega (arith, h.0))) (⊎_elim (λ h. h.1) (λ h. absurd (omega (arith, h.0)))) t
-
-  often : CutTo w c x → 2 ≤ c.mark → Held w x
-  often t z = ⊎_elim (λ h. absurd (omega (arith, h.0))) (⊎_elim (λ h. absurd (omega (arith, h.0))) (λ h. h.1)) t
-
-  any : LawfulCell w c → CutTo w c x → Held w x
-  any l =
-      ⊎_elim
-      (λ h. subst (Held w) (sym h.1) l.current)
-      (⊎_elim (λ h. ⊎_elim (λ e. subst (Held w) (sym e) l.persisted) (λ e. subst (Held w) (sym e) l.current) h.1) (λ h. h.1))
-
--- a cut of what a cut left
-cut_again : (m n p : Meaning) → Cut m n → Cut n p → Cut m p
-cut_again m n p k l = record {
-  width = l.width ∙ k.width;
-  blocks = l.blocks ∙ k.blocks;
-  cells = λ b h.
-      let c = k.cells b h in
-      let d : CutCell m.width (cell_at n b) (cell_at p b) = subst (λ w. CutCell w (cell_at n b) (cell_at p b)) k.width (l.cells b (omega (arith, k.blocks))) in
-      record {
-        mark = d.mark;
-        equal = d.equal;
-        from = subst (CutTo m.width (cell_at m b)) (sym (clean m.width (cell_at n b) (cell_at p b).current d.from c.mark)) c.from;
-      };
-  left = l.left;
-}
 
 -- of two sides at mark 1 with the same current words
 ones : (p q x y : Content) (ws : List ℕ) → (x ≡ p) ⊎ (x ≡ words ws) → (y ≡ q) ⊎ (y ≡ words ws) → (pick x y ≡ pick p q) ⊎ (pick x y ≡ words ws)

@@ -186,7 +186,7 @@ free_kept t m os B f =
     let ks : Keeps (0 ∷ 1 ∷ C) m (replay os m) = λ b h. keeps_free t m os f b (wider_committed t m b h) in
     (kept_keeps m (replay os m) t.generation t.committed (blocks_replay os m) (width_replay os m) ks B.kept, trees_same (current_at m) (current_at (replay os m)) t.committed (keeps_in m (replay os m) t.committed ks))
 
-are_writes : (t : Tables) (m : Meaning) (o : Op) → FreeWrite t m o → IsWrite o
+pub are_writes : (t : Tables) (m : Meaning) (o : Op) → FreeWrite t m o → IsWrite o
 are_writes t m (write b ws) f = tt
 are_writes t m flush f = f
 

@@ -1,8 +1,8 @@
 -- Two runs that differ in angles.
-use Rattle.std.proofs.Common.{◌≡◌, ℕ, zero, suc, ◌%◌, Bool, true, false, cond, not, ◌||◌, T, ltb, ◌⊎◌, List, [], ◌∷◌, map, get_or, take, set, ℤ, pos, negsuc, Some, None, Option, sym, refl, ap, ◌∙◌, subst, ap₂, inl, inr, eqb→eq}
+use Rattle.std.proofs.Common.{◌≡◌, ℕ, zero, suc, ◌%◌, Bool, true, false, cond, not, ◌||◌, T, ltb, ◌⊎◌, List, [], ◌∷◌, map, get_or, take, set, ℤ, pos, negsuc, Some, None, Option, sym, refl, ap, ◌∙◌, subst, ap₂, inl, inr, eqb→eq, arith}
 use Rattle.std.specs.Option.{option_or}
 use Rattle.device.specs.Meaning.{Meaning, spent}
-use Rattle.device.specs.Cuts.{Choice, Choice.old, Choice.new, Choice.other, Cutting, replay, cut}
+use Rattle.device.specs.Cuts.{keeps_old, Choice, Choice.old, Choice.new, Choice.other, Cutting, replay, cut}
 use Rattle.page.specs.Slot.{Root}
 use Rattle.table.specs.Rows.{off_angle, payload_of}
 use Rattle.table.specs.Angles.{angle_at}
@@ -17,10 +17,10 @@ use Rattle.tree.specs.Reads.{look}
 use Rattle.model.specs.Model.{Forms, Model, Shapes, forms, maps_of, shape_of, free, form_at, holds, late, refusal, left_after, tree_of, source, new_tree, standing, with_change, after, next, reply, finished, cut_model, landed, broken, working≔}
 use Rattle.model.specs.World.{Mode, Mode.mounted, Mode.down, Run, bare, model_of}
 use Rattle.model.specs.TwoRuns as tw
-use Rattle.model.specs.TwoRuns.{Both, Both.alike, one, two, Legal, Twin, legal, Marks, clear, finished_marks, touched, same_angle, mark_ask, marked, unless, refusal_in, Unseen, Remain, Finds, Agree, TwoRuns}
+use Rattle.model.specs.TwoRuns.{Both, Both.alike, one, two, Legal, Twin, legal, Marks, clear, SameCut, finished_marks, touched, same_angle, mark_ask, marked, unless, refusal_in, Unseen, Remain, Finds, Agree, TwoRuns}
 use Rattle.model.proofs.Histories.{Fine, step_fine, broke_fine, idle_cut, formatted_fine, fine_finds}
 
-abbrev Agreeing : {A : Type 0} → List Bool → List (Option A) → List (Option A) → Type 0
+abbrev pub Agreeing : {A : Type 0} → List Bool → List (Option A) → List (Option A) → Type 0
 Agreeing [] [] [] = Unit
 Agreeing [] [] (y ∷ ys) = ⊥
 Agreeing [] (x ∷ xs) [] = ⊥
@@ -68,21 +68,21 @@ module _ {A : Type 0} where
 abbrev working_s : Shapes → Forms → Shapes
 working_s S x = record { working = x; committed = S.committed; generation = S.generation; blocks = S.blocks; left = S.left; layer = S.layer }
 
-abbrev source_s : Shapes → ℕ → Change ℕ → Form
+abbrev pub source_s : Shapes → ℕ → Change ℕ → Form
 source_s S n begin = form bare_tree
 source_s S n (puts s a) = form_at S n
 source_s S n (takes s) = form_at S n
 
-form_source : (M : Model) (n : ℕ) (d : Change ℕ) → form (source M n d) ≡ source_s (shape_of M) n d
+pub form_source : (M : Model) (n : ℕ) (d : Change ℕ) → form (source M n d) ≡ source_s (shape_of M) n d
 form_source M n begin = refl
 form_source M n (puts s a) = form_at_lem M n
 form_source M n (takes s) = form_at_lem M n
 
-record Rel (μ : Marks) (M N : Model) : Type 0 where
-  shapes : shape_of M ≡ shape_of N
-  working : Agreeing μ.working M.working N.working
-  committed : Agreeing μ.committed M.committed N.committed
-  counts : μ.generation ≡ M.generation
+pub record Rel (μ : Marks) (M N : Model) : Type 0 where
+  pub shapes : shape_of M ≡ shape_of N
+  pub working : Agreeing μ.working M.working N.working
+  pub committed : Agreeing μ.committed M.committed N.committed
+  pub counts : μ.generation ≡ M.generation
 
 abbrev stands : Form → Option (Root × Form)
 stands f = Some (root_of f, f)
@@ -177,9 +177,9 @@ rel_mounted μ M N R = record {
   counts = R.counts;
 }
 
-rel_cut : (κ : Cutting) (μ : Marks) (M N : Model) → Rel μ M N → Rel μ (cut_model κ M) (cut_model κ N)
-rel_cut κ μ M N R = record {
-  shapes = ap (λ S. record { working = S.working; committed = S.committed; generation = S.generation; blocks = S.blocks; left = κ.left; layer = κ.left_mark }) R.shapes;
+pub rel_cut : (κ κ₂ : Cutting) → SameCut κ κ₂ → (μ : Marks) (M N : Model) → Rel μ M N → Rel μ (cut_model κ M) (cut_model κ₂ N)
+rel_cut κ κ₂ e μ M N R = record {
+  shapes = λ i. record { working = (R.shapes i).working; committed = (R.shapes i).committed; generation = (R.shapes i).generation; blocks = (R.shapes i).blocks; left = e.left i; layer = e.left_mark i };
   working = R.working;
   committed = R.committed;
   counts = R.counts;
@@ -234,7 +234,7 @@ rel_puts μ M N n s a b R = record {
 }
 
 -- both runs refuse alike
-put_refusals : (S : Shapes) (n s : ℕ) (a b : ℤ) → off_angle a ≡ false → off_angle b ≡ false → refusal S (put n s a) ≡ refusal S (put n s b)
+pub put_refusals : (S : Shapes) (n s : ℕ) (a b : ℤ) → off_angle a ≡ false → off_angle b ≡ false → refusal S (put n s a) ≡ refusal S (put n s b)
 put_refusals S n s a b ha hb =
     ap (λ k. option_or (first ((ltb 23 n, Number) ∷ (ltb 9999 s, Speed) ∷ (k, Angle) ∷ (not (has S.working n), Absent) ∷ [])) (late S (put n s a))) (ha ∙ sym hb)
 
@@ -273,7 +273,7 @@ module _ (V : Type 0) (join : ℕ → Map → V) where
       go (Some r) = R
       go None = subst (λ x. Rel x M' N') (sym ea) R'
 
-  rel_next : (x : Both) (μ : Marks) (M N : Model) → Legal x → Rel μ M N
+  pub rel_next : (x : Both) (μ : Marks) (M N : Model) → Legal x → Rel μ M N
       → Rel (unless (reply V join M (one x)) μ (marked μ x)) (next M (one x)) (next N (two x))
   rel_next (alike (ask q)) μ M N h R =
       rel_either (refusal (shape_of M) q) (refusal (shape_of N) q) μ (mark_ask μ q) (answers M q) M N (after M q) (after N q)
@@ -341,23 +341,30 @@ module _ (V : Type 0) (join : ℕ → Map → V) where
       refusal_reply M (put n s a) ∙ ap (λ S. refusal S (put n s a)) R.shapes ∙ put_refusals (shape_of N) n s a b l.0 l.1 ∙ sym (refusal_reply N (put n s b))
 
   -- the cuts
-  rel_landed : (k : Choice) (μ : Marks) (M N : Model) → Rel μ M N → (ν : Marks) × ((ν ≡ μ) ⊎ (ν ≡ finished_marks μ)) × Rel ν (landed k M) (landed k N)
-  rel_landed old μ M N R = (μ, inl refl, R)
-  rel_landed new μ M N R = (finished_marks μ, inr refl, rel_finished μ M N R)
-  rel_landed (other y) μ M N R = (finished_marks μ, inr refl, rel_finished μ M N R)
+  rel_landed : (k k₂ : Choice) → keeps_old k ≡ keeps_old k₂ → (μ : Marks) (M N : Model) → Rel μ M N → (ν : Marks) × ((ν ≡ μ) ⊎ (ν ≡ finished_marks μ)) × Rel ν (landed k M) (landed k₂ N)
+  rel_landed old old e μ M N R = (μ, inl refl, R)
+  rel_landed new new e μ M N R = (finished_marks μ, inr refl, rel_finished μ M N R)
+  rel_landed new (other z) e μ M N R = (finished_marks μ, inr refl, rel_finished μ M N R)
+  rel_landed (other y) new e μ M N R = (finished_marks μ, inr refl, rel_finished μ M N R)
+  rel_landed (other y) (other z) e μ M N R = (finished_marks μ, inr refl, rel_finished μ M N R)
+  rel_landed old new e μ M N R = absurd (let z : ◌≡◌ {A = Bool} true false = e in cc)
+  rel_landed old (other z) e μ M N R = absurd (let z : ◌≡◌ {A = Bool} true false = e in cc)
+  rel_landed new old e μ M N R = absurd (let z : ◌≡◌ {A = Bool} false true = e in cc)
+  rel_landed (other y) old e μ M N R = absurd (let z : ◌≡◌ {A = Bool} false true = e in cc)
 
-  rel_broken : (x : Both) (k : ℕ) (κ : Cutting) (μ : Marks) (M N : Model) → Rel μ M N → (ν : Marks) × Remain x μ ν × Rel ν (broken M (one x) k κ) (broken N (two x) k κ)
-  rel_broken (alike (ask q)) k κ μ M N R = (μ, refl, R)
-  rel_broken (alike finish) zero κ μ M N R = (μ, inl refl, R)
-  rel_broken (alike finish) (suc zero) κ μ M N R =
-      subst (λ g. (ν : Marks) × ((ν ≡ μ) ⊎ (ν ≡ finished_marks μ)) × Rel ν (landed (κ.choice (suc M.generation % 2)) M) (landed (κ.choice (suc g % 2)) N)) (ap (λ S. S.generation) R.shapes) (rel_landed (κ.choice (suc M.generation % 2)) μ M N R)
-  rel_broken (alike finish) (suc (suc k)) κ μ M N R = (finished_marks μ, inr refl, rel_finished μ M N R)
-  rel_broken (alike reopen) k κ μ M N R = (μ, refl, R)
-  rel_broken (alike mount) k κ μ M N R = (μ, refl, R)
-  rel_broken (tw.puts n s a b) k κ μ M N R = (μ, refl, R)
+  pub rel_broken : (x : Both) (k : ℕ) (κ κ₂ : Cutting) → SameCut κ κ₂ → (μ : Marks) (M N : Model) → Rel μ M N → (ν : Marks) × Remain x μ ν × Rel ν (broken M (one x) k κ) (broken N (two x) k κ₂)
+  rel_broken (alike (ask q)) k κ κ₂ e μ M N R = (μ, refl, R)
+  rel_broken (alike finish) zero κ κ₂ e μ M N R = (μ, inl refl, R)
+  rel_broken (alike finish) (suc zero) κ κ₂ e μ M N R =
+      let s = suc M.generation % 2 in
+      subst (λ g. (ν : Marks) × ((ν ≡ μ) ⊎ (ν ≡ finished_marks μ)) × Rel ν (landed (κ.choice s) M) (landed (κ₂.choice (suc g % 2)) N)) (ap (λ S. S.generation) R.shapes) (rel_landed (κ.choice s) (κ₂.choice s) (e.slots s (omega arith)) μ M N R)
+  rel_broken (alike finish) (suc (suc k)) κ κ₂ e μ M N R = (finished_marks μ, inr refl, rel_finished μ M N R)
+  rel_broken (alike reopen) k κ κ₂ e μ M N R = (μ, refl, R)
+  rel_broken (alike mount) k κ κ₂ e μ M N R = (μ, refl, R)
+  rel_broken (tw.puts n s a b) k κ κ₂ e μ M N R = (μ, refl, R)
 
   agree : (ts : List (Twin V)) (μ : Marks) (M N : Model) (w : Mode) (m : Meaning) (w₂ : Mode) (m₂ : Meaning) → Fine M w m → Fine N w₂ m₂ → Rel μ M N
-      → Each legal ts → Run V join w m (map tw.first ts) → Run V join w₂ m₂ (map tw.second ts) → Agree V μ m ts
+      → Each legal ts → Run V join w m (map tw.first ts) → Run V join w₂ m₂ (map tw.second ts) → Agree V μ m m₂ ts
   agree [] μ M N w m w₂ m₂ f f₂ R l r r₂ = tt
   agree (tw.did x a os v n a₂ os₂ v₂ n₂ ∷ ts) μ M N w m w₂ m₂ f f₂ R l r r₂ =
       let s = step_fine V join w (one x) M m a os v n f r.0 in
@@ -368,21 +375,22 @@ module _ (V : Type 0) (join : ℕ → Map → V) where
         (λ h. s.0 ∙ same_reply x μ M N l.0 R h ∙ sym s₂.0),
         agree ts (unless a μ (marked μ x)) (next M (one x)) (next N (two x)) v n v₂ n₂ s.1 s₂.1 R' l.1 r.1 r₂.1,
       )
-  agree (tw.broke x os os₂ k κ ∷ ts) μ M N w m w₂ m₂ f f₂ R l r r₂ =
-      let b = rel_broken x k κ μ M N R in
+  agree (tw.broke x os os₂ k κ κ₂ ∷ ts) μ M N w m w₂ m₂ f f₂ R l r r₂ =
+      let b = rel_broken x k κ κ₂ l.0.1 μ M N R in
       let ν : Marks = b.0 in
       let s = broke_fine V join w (one x) M m r.0.0 os r.0.1 r.0.2 k κ f r.0.3 in
-      let s₂ = broke_fine V join w₂ (two x) N m₂ r₂.0.0 os₂ r₂.0.1 r₂.0.2 k κ f₂ r₂.0.3 in
+      let s₂ = broke_fine V join w₂ (two x) N m₂ r₂.0.0 os₂ r₂.0.1 r₂.0.2 k κ₂ f₂ r₂.0.3 in
       let M' : Model = cut_model κ (broken M (one x) k κ) in
-      let N' : Model = cut_model κ (broken N (two x) k κ) in
+      let N' : Model = cut_model κ₂ (broken N (two x) k κ₂) in
       let d : Meaning = cut κ (replay (take k os) m) in
-      let d₂ : Meaning = cut κ (replay (take k os₂) m₂) in
+      let d₂ : Meaning = cut κ₂ (replay (take k os₂) m₂) in
       let g : Finds V d ν.generation = subst (λ g. Finds V d g) (sym b.2.counts) (fine_finds M' d s) in
-      (ν, b.1, g, agree ts ν M' N' down d down d₂ s s₂ (rel_cut κ ν (broken M (one x) k κ) (broken N (two x) k κ) b.2) l.1 r.1 r₂.1)
-  agree (tw.lost κ ∷ ts) μ M N w m w₂ m₂ f f₂ R l r r₂ =
-      agree ts μ (cut_model κ M) (cut_model κ N) down (cut κ m) down (cut κ m₂) (idle_cut M κ w m f) (idle_cut N κ w₂ m₂ f₂) (rel_cut κ μ M N R) l.1 r r₂
+      let g₂ : Finds V d₂ ν.generation = subst (λ g. Finds V d₂ g) (sym (b.2.counts ∙ ap (λ S. S.generation) b.2.shapes)) (fine_finds N' d₂ s₂) in
+      (ν, b.1, g, g₂, agree ts ν M' N' down d down d₂ s s₂ (rel_cut κ κ₂ l.0.1 ν (broken M (one x) k κ) (broken N (two x) k κ₂) b.2) l.1 r.1 r₂.1)
+  agree (tw.lost κ κ₂ ∷ ts) μ M N w m w₂ m₂ f f₂ R l r r₂ =
+      agree ts μ (cut_model κ M) (cut_model κ₂ N) down (cut κ m) down (cut κ₂ m₂) (idle_cut M κ w m f) (idle_cut N κ₂ w₂ m₂ f₂) (rel_cut κ κ₂ l.0 μ M N R) l.1 r r₂
 
-  clear_rel : (m : Meaning) → Rel clear (model_of bare m) (model_of bare m)
+  pub clear_rel : (m : Meaning) → Rel clear (model_of bare m) (model_of bare m)
   clear_rel m = record { shapes = refl; working = blanks; committed = blanks; counts = refl }
     where
       blanks : Agreeing clear.working (model_of bare m).working (model_of bare m).working

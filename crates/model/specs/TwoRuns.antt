@@ -1,7 +1,7 @@
 -- Two runs with the same cuts, alike but for angles that are put, and which clones an angle may have touched.
-use Rattle.std.specs.Prelude.{◌≡◌, ℕ, suc, Bool, false, not, ◌||◌, ◌⊎◌, List, [], ◌∷◌, map, take, replicate, ℤ, pos, negsuc, Some, None, Ok, Option, ◌==◌, slice_index_or, slice_set}
+use Rattle.std.specs.Prelude.{◌≡◌, ℕ, suc, ◌<◌, Bool, false, not, ◌||◌, ◌⊎◌, List, [], ◌∷◌, map, take, replicate, ℤ, pos, negsuc, Some, None, Ok, Option, ◌==◌, slice_index_or, slice_set}
 use Rattle.device.specs.Meaning.{Meaning}
-use Rattle.device.specs.Cuts.{Op, Cutting, cut, replay}
+use Rattle.device.specs.Cuts.{Op, Cutting, keeps_old, cut, replay}
 use Rattle.page.specs.Slot.{Table}
 use Rattle.table.specs.Rows.{off_angle}
 use Rattle.model.specs.declared.refusal.Refusal.{Refusal}
@@ -28,26 +28,33 @@ abbrev pub Legal : Both → Type 0
 Legal (alike c) = Unit
 Legal (puts n s a b) = (off_angle a ≡ false) × (off_angle b ≡ false)
 
--- an event of both runs: the same moment and the same cut
+-- One cut in both runs: of each of the two slots both keep the old content or neither does, and the writes left are the same.
+-- Of all other blocks the cuts may differ.
+pub record SameCut (κ κ₂ : Cutting) : Type 0 where
+  pub slots : (b : ℕ) → b < 2 → keeps_old (κ.choice b) ≡ keeps_old (κ₂.choice b)
+  pub left : κ.left ≡ κ₂.left
+  pub left_mark : κ.left_mark ≡ κ₂.left_mark
+
+-- an event of both runs: the same moment, and a cut for each
 pub data Twin (V : Type 0) : Type 0 where
   did : Both → Answer V → List Op → Mode → Meaning → Answer V → List Op → Mode → Meaning → Twin V
-  broke : Both → List Op → List Op → ℕ → Cutting → Twin V
-  lost : Cutting → Twin V
+  broke : Both → List Op → List Op → ℕ → Cutting → Cutting → Twin V
+  lost : Cutting → Cutting → Twin V
 
 abbrev pub first : {V : Type 0} → Twin V → Event V
 first (did x a os w m a₂ os₂ w₂ m₂) = Event.did (one x) a os w m
-first (broke x os os₂ k κ) = Event.broke (one x) os k κ
-first (lost κ) = Event.lost κ
+first (broke x os os₂ k κ κ₂) = Event.broke (one x) os k κ
+first (lost κ κ₂) = Event.lost κ
 
 abbrev pub second : {V : Type 0} → Twin V → Event V
 second (did x a os w m a₂ os₂ w₂ m₂) = Event.did (two x) a₂ os₂ w₂ m₂
-second (broke x os os₂ k κ) = Event.broke (two x) os₂ k κ
-second (lost κ) = Event.lost κ
+second (broke x os os₂ k κ κ₂) = Event.broke (two x) os₂ k κ₂
+second (lost κ κ₂) = Event.lost κ₂
 
 abbrev pub legal : {V : Type 0} → Twin V → Type 0
 legal (did x a os w m a₂ os₂ w₂ m₂) = Legal x
-legal (broke x os os₂ k κ) = Legal x
-legal (lost κ) = Unit
+legal (broke x os os₂ k κ κ₂) = Legal x × SameCut κ κ₂
+legal (lost κ κ₂) = SameCut κ κ₂
 
 -- touched marks, with the generation of the committed ones
 pub record Marks : Type 0 where
@@ -138,16 +145,19 @@ module _ (V : Type 0) where
   abbrev pub Finds : Meaning → ℕ → Type 0
   Finds m g = (t : Table) × (found m ≡ Ok (g, t))
 
-  abbrev pub Agree : Marks → Meaning → List (Twin V) → Type 0
-  Agree μ m [] = Unit
-  Agree μ m (did x a os w m' a₂ os₂ w₂ m₂ ∷ ts) = (refusal_in a ≡ refusal_in a₂) × (Unseen μ x → a ≡ a₂) × Agree (unless a μ (marked μ x)) m' ts
-  Agree μ m (broke x os os₂ k κ ∷ ts) =
-      (μ' : Marks) × Remain x μ μ' × Finds (cut κ (replay (take k os) m)) μ'.generation × Agree μ' (cut κ (replay (take k os) m)) ts
-  Agree μ m (lost κ ∷ ts) = Agree μ (cut κ m) ts
+  -- both runs refuse alike, and answer alike of what shows no touched clone; after a cut inside a call both find one generation
+  abbrev pub Agree : Marks → Meaning → Meaning → List (Twin V) → Type 0
+  Agree μ m m₂ [] = Unit
+  Agree μ m m₂ (did x a os w m' a₂ os₂ w₂ m₂' ∷ ts) = (refusal_in a ≡ refusal_in a₂) × (Unseen μ x → a ≡ a₂) × Agree (unless a μ (marked μ x)) m' m₂' ts
+  Agree μ m m₂ (broke x os os₂ k κ κ₂ ∷ ts) =
+      let n = cut κ (replay (take k os) m) in
+      let n₂ = cut κ₂ (replay (take k os₂) m₂) in
+      (μ' : Marks) × Remain x μ μ' × Finds n μ'.generation × Finds n₂ μ'.generation × Agree μ' n n₂ ts
+  Agree μ m m₂ (lost κ κ₂ ∷ ts) = Agree μ (cut κ m) (cut κ₂ m₂) ts
 
 abbrev pub TwoRuns : (V : Type 0) → Type 0
 TwoRuns V =
     (join : ℕ → Map → V) (m : Meaning) (ts : List (Twin V))
     → Formatted m → Each legal ts
     → Run V join (mounted bare) m (map first ts) → Run V join (mounted bare) m (map second ts)
-    → Agree V clear m ts
+    → Agree V clear m m ts

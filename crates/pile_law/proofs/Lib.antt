@@ -1,0 +1,7 @@
+pub mod Histories
+pub mod Kept
+pub mod Kin
+pub mod Late
+pub mod Same
+pub mod Twins
+pub mod TwoHistories

@@ -1,0 +1,60 @@
+-- Histories of a volume on a pile, of which the bottoms are cut, and the law of histories over them.
+use Rattle.std.specs.Prelude.{◌≡◌, ℕ, zero, suc, ◌⊎◌, Bool, List, [], ◌∷◌}
+use Rattle.device.specs.Meaning.{Meaning}
+use Rattle.device.specs.Cuts.{Op, apply, replay}
+use Rattle.model.specs.Plain.{Map, Call, Answer, start}
+use Rattle.model.specs.World.{Mode, Mode.mounted, Mode.down, Event, Event.did, Event.broke, Event.lost, Step, Run, Formatted, bare}
+use Rattle.model.specs.Right.{Right}
+use Rattle.piles.specs.Piles.{Pile, shows, Built, PerBottom, part, whole, Accepts, Cuts, anew}
+
+-- some calls, one after another
+abbrev pub calls : List Op → Pile → Pile
+calls [] p = p
+calls (o ∷ os) p = calls os (whole o p)
+
+-- when i of them are done, and these bottoms have done their part of the next
+abbrev pub moment : List Op → ℕ → PerBottom Bool → Pile → Pile
+moment [] i d p = p
+moment (o ∷ os) zero d p = part o d p
+moment (o ∷ os) (suc i) d p = moment os i d (whole o p)
+
+abbrev pub AcceptsAll : Meaning → List Op → Type 0
+AcceptsAll m [] = Unit
+AcceptsAll m (o ∷ os) = Accepts m o × AcceptsAll (apply o m) os
+
+-- what happens to a volume on a pile
+pub data Below (V : Type 0) : Type 0 where
+  -- a call, its answer, its device calls and the mode it left
+  called : Call → Answer V → List Op → Mode → Below V
+  -- a call of these device calls; so many were done, and these bottoms had done their part of the next, when the power failed, and left of the bottoms this
+  failed : Call → List Op → ℕ → PerBottom Bool → Pile → Below V
+  -- the power failed between two calls
+  cut : Pile → Below V
+
+module _ (V : Type 0) (join : ℕ → Map → V) where
+  -- a history on a pile: after each cut the layers are built anew over what it left of the bottoms
+  abbrev pub RunBelow : Mode → Pile → List (Below V) → Type 0
+  RunBelow w p [] = Unit
+  RunBelow w p (called c a os w' ∷ es) = Step V join w (shows p) c a os w' (replay os (shows p)) × AcceptsAll (shows p) os × RunBelow w' (calls os p) es
+  RunBelow w p (failed c os i d q ∷ es) =
+      ((a : Answer V) × (w' : Mode) × (m' : Meaning) × Step V join w (shows p) c a os w' m') × AcceptsAll (shows p) os × Cuts (moment os i d p) q × RunBelow down (anew q) es
+  RunBelow w p (cut q ∷ es) = Cuts p q × RunBelow down (anew q) es
+
+-- the event of a volume on a device, as which an event on a pile shows: a cut inside a device call is one before it or after it
+abbrev pub Seen : {V : Type 0} → Below V → Event V → Type 0
+Seen (called c a os w) (did c' a' os' w' m) = (c' ≡ c) × (a' ≡ a) × (os' ≡ os) × (w' ≡ w)
+Seen (failed c os i d q) (broke c' os' j κ) = (c' ≡ c) × (os' ≡ os) × ((j ≡ i) ⊎ (j ≡ suc i))
+Seen (cut q) (lost κ) = Unit
+Seen e f = ⊥
+
+abbrev pub AllSeen : {V : Type 0} → List (Below V) → List (Event V) → Type 0
+AllSeen [] [] = Unit
+AllSeen (e ∷ es) (f ∷ fs) = Seen e f × AllSeen es fs
+AllSeen es fs = ⊥
+
+-- every history on a pile is one of the device that the pile shows, so the law of histories holds of it
+abbrev pub PilesKeepTheLaw : (V : Type 0) → Type 0
+PilesKeepTheLaw V =
+    (join : ℕ → Map → V) (p : Pile) (es : List (Below V)) → Built p → RunBelow V join (mounted bare) p es
+    → (fs : List (Event V)) × AllSeen es fs × Run V join (mounted bare) (shows p) fs
+    × (Formatted (shows p) → Right V join start (mounted bare) (shows p) fs)
