@@ -1,7 +1,7 @@
--- What a cut leaves is flushed already.
-use Rattle.std.proofs.Common.{◌≡◌, ℕ, ◌<◌, List, map, get_or, sym, ap, ◌∙◌, arith}
+-- What a cut leaves is flushed already, and what a cut leaves of that is a cut.
+use Rattle.std.proofs.Common.{◌≡◌, ℕ, zero, suc, ◌<◌, List, map, get_or, sym, ap, ◌∙◌, subst, arith}
 use Rattle.std.proofs.lemmas.List.{same_lists, length-map, get_or-map, get_or_default}
-use Rattle.device.specs.Meaning.{Meaning, Cell, Content, Cut, CutCell, flushed, flushed_cell, no_cell, blocks_of}
+use Rattle.device.specs.Meaning.{Meaning, Cell, Content, Cut, CutCell, CutTo, cell_at, flushed, flushed_cell, no_cell, blocks_of}
 
 still : (w : ℕ) (c d : Cell) → CutCell w c d → flushed_cell d ≡ d
 still w c d k = ap (λ x. make x 0) (sym k.equal) ∙ ap (make d.persisted) (sym k.mark)
@@ -19,3 +19,23 @@ cut_flushed m n k = ap (λ (cs : List Cell). with_cells cs)
   where
     with_cells : List Cell → Meaning
     with_cells cs = record { width = n.width; cells = cs; left = n.left; left_mark = n.left_mark }
+
+-- a block of mark 0 keeps its content
+pub clean : (w k : ℕ) (c : Cell) (x : Content) → CutTo w k c x → k ≡ 0 → x ≡ c.current
+clean w zero c x t z = t
+clean w (suc k) c x t z = absurd (omega (arith, z))
+
+pub cut_again : (m n p : Meaning) → Cut m n → Cut n p → Cut m p
+cut_again m n p k l = record {
+  width = l.width ∙ k.width;
+  blocks = l.blocks ∙ k.blocks;
+  cells = λ b h.
+      let c = k.cells b h in
+      let d : CutCell m.width (cell_at n b) (cell_at p b) = subst (λ w. CutCell w (cell_at n b) (cell_at p b)) k.width (l.cells b (omega (arith, k.blocks))) in
+      record {
+        mark = d.mark;
+        equal = d.equal;
+        from = subst (CutTo m.width (cell_at m b).mark (cell_at m b)) (sym (clean m.width (cell_at n b).mark (cell_at n b) (cell_at p b).current d.from c.mark)) c.from;
+      };
+  left = l.left;
+}
