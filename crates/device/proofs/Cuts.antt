@@ -1,7 +1,8 @@
 -- What a cut leaves is flushed already, and what a cut leaves of that is a cut.
-use Rattle.std.proofs.Common.{◌≡◌, ℕ, zero, suc, ◌<◌, List, map, get_or, sym, ap, ◌∙◌, subst, arith}
+use Rattle.std.proofs.Common.{◌≡◌, ℕ, zero, suc, ◌<◌, List, map, get_or, sym, ap, ◌∙◌, subst, inr, arith}
 use Rattle.std.proofs.lemmas.List.{same_lists, length-map, get_or-map, get_or_default}
-use Rattle.device.specs.Meaning.{Meaning, Cell, Content, Cut, CutCell, CutTo, cell_at, flushed, flushed_cell, no_cell, blocks_of}
+use Rattle.std.proofs.ByRecursion.{All-get_or}
+use Rattle.device.specs.Meaning.{Meaning, Cell, Content, Held, Lawful, LawfulCell, Cut, CutCell, CutTo, cell_at, flushed, flushed_cell, no_cell, blocks_of}
 
 still : (w : ℕ) (c d : Cell) → CutCell w c d → flushed_cell d ≡ d
 still w c d k = ap (λ x. make x 0) (sym k.equal) ∙ ap (make d.persisted) (sym k.mark)
@@ -38,4 +39,25 @@ cut_again m n p k l = record {
         from = subst (CutTo m.width (cell_at m b).mark (cell_at m b)) (sym (clean m.width (cell_at n b).mark (cell_at n b) (cell_at p b).current d.from c.mark)) c.from;
       };
   left = l.left;
+}
+
+-- a cut after a flush is one before it
+flushed_to : (w k : ℕ) (c : Cell) (x : Content) → LawfulCell w c → x ≡ c.current → CutTo w k c x
+flushed_to w zero c x l e = e
+flushed_to w (suc zero) c x l e = inr e
+flushed_to w (suc (suc n)) c x l e = subst (Held w) (sym e) l.current
+
+pub cut_before : (m n : Meaning) → Lawful m → Cut (flushed m) n → Cut m n
+cut_before m n l k = record {
+  width = k.width;
+  blocks = k.blocks ∙ length-map m.cells flushed_cell;
+  cells = λ b h.
+      let d : CutCell m.width (flushed_cell (cell_at m b)) (cell_at n b)
+      = subst (λ c. CutCell m.width c (cell_at n b)) (get_or-map flushed_cell m.cells b no_cell no_cell h) (k.cells b (omega (arith, length-map m.cells flushed_cell))) in
+      record {
+        mark = d.mark;
+        equal = d.equal;
+        from = flushed_to m.width (cell_at m b).mark (cell_at m b) (cell_at n b).current (All-get_or (LawfulCell m.width) m.cells b no_cell h l.cells) d.from;
+      };
+  left = k.left;
 }
