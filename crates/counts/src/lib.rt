@@ -36,7 +36,24 @@ pub struct Counts {
     pub of: ArrayVec<u16, 4096>,
 }
 
+// 4,096 counts of 0.
+fn zeros() -> [u16; 4096]
+    ensures { result ≡ replicate 4096 0 }
+{
+    [0; 4096]
+}
+
 impl Counts {
+    // Counts of no references, for so many blocks.
+    pub fn none(blocks: u32) -> Counts
+        requires { blocks ≤ 4096 }
+        ensures { result.of.items ≡ replicate blocks 0 }
+    {
+        let mut of = ArrayVec::from(zeros());
+        of.truncate(blocks as usize);
+        Counts { of }
+    }
+
     // The references to a block.
     pub fn get(&self, block: u32) -> u16
         requires { block < array_vec_len self.now.of }
