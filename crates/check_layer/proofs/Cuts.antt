@@ -1,10 +1,12 @@
 -- A cut below the check layer is a cut of it.
 use Rattle.std.proofs.Common.{◌-◌, ◌<◌, ◌≤◌, map, get_or, sym, ap, ◌∙◌, subst, arith}
 use Rattle.std.proofs.lemmas.List.{length-map, get_or-map}
-use Rattle.device.specs.Meaning.{Meaning, Cut, CutCell, flushed, no_cell, blocks_of, cell_at}
-use Rattle.device.proofs.Cuts.{cut_flushed}
+use Rattle.device.specs.Meaning.{Meaning, Cut, CutCell, written, flushed, no_cell, blocks_of, cell_at}
+use Rattle.device.proofs.Cuts.{cut_flushed, cut_unflushed}
 use Rattle.device.proofs.Mapped.{mapped_cut}
-use Rattle.check_layer.specs.Checked.{checked, checked_cell, checked_content, held_checked}
+use Rattle.check_layer.specs.Cuts.{CutsKept}
+use Rattle.check_layer.proofs.Follows.{checked_written}
+use Rattle.check_layer.specs.Checked.{checked, with_check, checked_cell, checked_content, held_checked}
 
 checked_cut : (m n : Meaning) → 1 ≤ n.width → Cut m n → Cut (checked m) (checked n)
 checked_cut m n big k = record {
@@ -20,8 +22,16 @@ checked_cut m n big k = record {
       (subst (λ w. CutCell (m.width - 1) (checked_cell (m.width - 1) c) (checked_cell (w - 1) d)) (sym k.width)
       (mapped_cut (checked_content (m.width - 1)) m.width (m.width - 1) (held_checked m.width (omega (arith, k.width))) c d (k.cells b h₁))));
   left = k.left;
+  left_mark = omega arith;
 }
 
--- also where the layer is built anew, and so flushes
-pub built_cut : (m n : Meaning) → 1 ≤ n.width → Cut m n → Cut (checked m) (checked (flushed n))
-built_cut m n big k = subst (λ x. Cut (checked m) (checked x)) (sym (cut_flushed m n k)) (checked_cut m n big k)
+-- the layer that is built anew: it flushes what a cut has left, which changes nothing
+pub built_cut : (p : Meaning) → 2 ≤ p.width → CutsKept p (checked (flushed p))
+built_cut p big = record {
+  between = between;
+  in_write = λ m b ws h e k. subst (λ x. Cut x (checked (flushed p))) (checked_written m b ws h (omega (arith, e))) (between (written m b (with_check ws)) k);
+  in_flush = λ m l k. between m (cut_unflushed m p l k);
+}
+  where
+    between : (m : Meaning) → Cut m p → Cut (checked m) (checked (flushed p))
+    between m k = subst (λ x. Cut (checked m) (checked x)) (sym (cut_flushed m p k)) (checked_cut m p (omega (arith, big)) k)

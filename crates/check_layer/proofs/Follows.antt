@@ -1,11 +1,12 @@
 -- How the check layer's meaning follows the meaning below it.
-use Rattle.std.proofs.Common.{◌≡◌, ℕ, ◌-◌, ◌<◌, List, [], ◌∷◌, map, length, set, Ok, Err, Result, sym, refl, ap, ◌∙◌}
-use Rattle.std.proofs.lemmas.List.{map-set, get_or-map, take_at, get_or_at}
+use Rattle.std.proofs.Common.{◌≡◌, ℕ, ◌-◌, ◌<◌, List, [], ◌∷◌, map, length, set, Ok, Err, Result, sym, refl, ap, ◌∙◌, arith}
+use Rattle.std.proofs.lemmas.List.{length-map, map-set, get_or-map, take_at, get_or_at}
 use Rattle.std.proofs.lemmas.Bool.{eq-eqb}
 use Rattle.device.specs.declared.DeviceFault.{DeviceFault}
-use Rattle.device.specs.Meaning.{Meaning, Cell, words, raised, flushed, written, written_cell, no_cell, spent, blocks_of, passed, after_write, cell_at}
+use Rattle.device.specs.Meaning.{Meaning, Shown, count_of, shown_of, Cell, words, raised, flushed, written, written_cell, no_cell, spent, blocks_of, passed, after_write, cell_at}
+use Rattle.device.specs.Showing.{count_shown}
 use Rattle.device.proofs.Mapped.{mapped_flush}
-use Rattle.check_layer.specs.Checked.{checked, checked_cell, checked_content, check_of, with_check}
+use Rattle.check_layer.specs.Checked.{checked, checked_shown, checked_cell, checked_content, check_of, with_check}
 
 -- after a flush below
 pub checked_flushed : (m : Meaning) → checked (flushed m) ≡ flushed (checked m)
@@ -29,7 +30,7 @@ after_passed (Ok u) m b ws = refl
 after_passed (Err e) m b ws = refl
 
 module _ (m : Meaning) (b : ℕ) (ws : List ℕ) (h : b < blocks_of m) (e : length ws ≡ m.width - 1) where
-  checked_written : checked (written m b (with_check ws)) ≡ written (checked m) b ws
+  pub checked_written : checked (written m b (with_check ws)) ≡ written (checked m) b ws
   checked_written =
       ap with_cells
       (map-set f m.cells b (written_cell (with_check ws) (cell_at m b))
@@ -47,3 +48,11 @@ module _ (m : Meaning) (b : ℕ) (ws : List ℕ) (h : b < blocks_of m) (e : leng
   pub checked_after : (r : Result Unit DeviceFault) → checked (after_write r m b (with_check ws)) ≡ after_write r (checked m) b ws
   checked_after (Ok u) = checked_written
   checked_after (Err f) = refl
+
+-- the same, where what is shown below is known
+pub shown_after : (s : Shown) (m : Meaning) → s ≡ shown_of m → (b : ℕ) (ws : List ℕ) → b < count_of (checked_shown s) → length ws ≡ s.width - 1
+    → (r : Result Unit DeviceFault) → checked (after_write r m b (with_check ws)) ≡ after_write r (checked m) b ws
+shown_after s m q b ws h e =
+    checked_after m b ws
+    (omega (arith, length-map s.contents (checked_content (s.width - 1)), ap count_of q, count_shown m))
+    (e ∙ ap (λ (x : Shown). x.width - 1) q)

@@ -1,5 +1,6 @@
 // Free blocks set aside for one call.
-ghost use Rattle.std.specs.Prelude.{◌≡◌, ◌≤◌, [], ◌∷◌, length, drop, vec_len};
+ghost use Rattle.std.specs.Prelude.{◌≡◌, ◌≤◌, [], ◌∷◌, length, drop};
+ghost use Rattle.arrayvec.specs.ArrayVec.{array_vec_len};
 ghost use Rattle.counts.specs.Grants.{lowest_free};
 ghost use Rattle.counts.specs.Hint.{Taken};
 
@@ -25,7 +26,7 @@ impl Model for Grant {
 impl Grant {
     // The n lowest free blocks, if there are so many, and none below the hint.
     pub fn lowest(counts: &Counts, hint: usize, n: usize) -> Option<Grant>
-        requires few { (n ≤ 11) × (vec_len counts.now.of ≤ 4096) }
+        requires few { (n ≤ 11) × (array_vec_len counts.now.of ≤ 4096) }
         requires hint { Taken hint counts.now.of.items }
         ensures { result ≡ lowest_free n counts.now.of.items }
     {

@@ -1,16 +1,18 @@
 // References to tree blocks, counted. docs/counts.md explains the equation and the moves that keep it.
 #![tactic(auto)]
 
-ghost use Rattle.std.specs.Prelude.{◌≡◌, ℕ, ◌+◌, ◌-◌, ◌*◌, ◌<◌, ◌≤◌, ◌==◌, length, replicate, Some, vec_len, slice_index, slice_set};
+ghost use Rattle.std.specs.Prelude.{◌≡◌, ℕ, ◌+◌, ◌-◌, ◌*◌, ◌<◌, ◌≤◌, ◌==◌, length, replicate, Some, slice_index, slice_set};
 ghost use Rattle.counts.specs.Counts.{AliveIsReached, add_all, opened, Roomy};
 ghost use Rattle.counts.specs.Hint.{Taken, TakenBut};
 ghost use Rattle.counts.specs.Keeping.{retained, RetainKeeps, OpenKeeps, LinkKeeps, CountsFit};
 ghost use Rattle.page.specs.Block.{kids_of};
 ghost use Rattle.page.specs.View.{view};
+ghost use Rattle.arrayvec.specs.ArrayVec.{array_vec_len};
 
 mod grant;
 mod store;
 
+use arrayvec::ArrayVec;
 pub use grant::Grant;
 use page::page::Page;
 pub use store::Store;
@@ -31,13 +33,30 @@ pub fn moves_keep_the_counts()
 // How many references each block has.
 #[derive(Drop)]
 pub struct Counts {
-    pub of: Vec<u16>,
+    pub of: ArrayVec<u16, 4096>,
+}
+
+// 4,096 counts of 0.
+fn zeros() -> [u16; 4096]
+    ensures { result ≡ replicate 4096 0 }
+{
+    [0; 4096]
 }
 
 impl Counts {
+    // Counts of no references, for so many blocks.
+    pub fn none(blocks: u32) -> Counts
+        requires { blocks ≤ 4096 }
+        ensures { result.of.items ≡ replicate blocks 0 }
+    {
+        let mut of = ArrayVec::from(zeros());
+        of.truncate(blocks as usize);
+        Counts { of }
+    }
+
     // The references to a block.
     pub fn get(&self, block: u32) -> u16
-        requires { block < vec_len self.now.of }
+        requires { block < array_vec_len self.now.of }
         ensures { result ≡ slice_index self.now.of.items block }
     {
         self.of[block as usize]
@@ -45,7 +64,7 @@ impl Counts {
 
     // Sets the references to a block.
     pub fn set(&mut self, block: u32, count: u16)
-        requires { block < vec_len self.old.of }
+        requires { block < array_vec_len self.old.of }
         ensures { self.new.of.items ≡ slice_set self.old.of.items block count }
     {
         self.of[block as usize] = count;
@@ -53,14 +72,14 @@ impl Counts {
 
     // Takes all references away.
     pub fn clear(&mut self)
-        ensures { self.new.of.items ≡ replicate (vec_len self.old.of) 0 }
+        ensures { self.new.of.items ≡ replicate (array_vec_len self.old.of) 0 }
     {
-        self.of.fill(0);
+        self.of.as_mut_slice().fill(0);
     }
 
     // One reference more to a block; whether it is the first.
     pub fn retain(&mut self, block: u32) -> bool
-        requires within { block < vec_len self.old.of }
+        requires within { block < array_vec_len self.old.of }
         requires room { slice_index self.old.of.items block < 65535 }
         ensures first { result ≡ (slice_index self.old.of.items block == 0) }
         ensures counts { self.new.of.items ≡ retained block self.old.of.items }
@@ -107,12 +126,13 @@ impl Counts {
 
     // The lowest of sixteen counts.
     fn lowest_of(&self, from: usize) -> u16
-        requires { from + 16 ≤ vec_len self.now.of }
+        requires { from + 16 ≤ array_vec_len self.now.of }
         ensures { 0 < result → (i : ℕ) → from ≤ i → i < from + 16 → 0 < slice_index self.now.of.items i }
     {
+        let counts = self.of.as_slice();
         let mut low = u16::MAX;
         for i in from..from + 16 {
-            low = low.min(self.of[i]);
+            low = low.min(counts[i]);
         }
         low
     }
@@ -121,14 +141,15 @@ impl Counts {
     fn next_free(&self, from: usize) -> usize
         ensures on { from ≤ result }
         ensures over { (i : ℕ) → from ≤ i → i < result → 0 < slice_index self.now.of.items i }
-        ensures free { result < vec_len self.now.of → slice_index self.now.of.items result ≡ 0 }
+        ensures free { result < array_vec_len self.now.of → slice_index self.now.of.items result ≡ 0 }
     {
-        let len = self.of.len();
+        let counts = self.of.as_slice();
+        let len = counts.len();
         let mut next = from;
         while next < len && len - next >= 16 && self.lowest_of(next) > 0 {
             next += 16;
         }
-        while next < len && self.of[next] > 0 {
+        while next < len && counts[next] > 0 {
             next += 1;
         }
         next
@@ -136,7 +157,7 @@ impl Counts {
 
     // The hint, after a block lost a reference: the block itself, if that was the last and the block lies below.
     fn freed(&self, hint: usize, block: u32) -> usize
-        requires within { block < vec_len self.now.of }
+        requires within { block < array_vec_len self.now.of }
         requires others { TakenBut block hint self.now.of.items }
         ensures { Taken result self.now.of.items }
     {

@@ -1,5 +1,5 @@
 // A device whose tree blocks are counted by their references.
-ghost use Rattle.std.specs.Prelude.{◌≡◌, ℕ, ◌+◌, ◌-◌, ◌<◌, ◌≤◌, ◌==◌, true, [], ◌∷◌, length, is_some, Some, None, if◌then◌else◌, vec_len, slice_index};
+ghost use Rattle.std.specs.Prelude.{◌≡◌, ℕ, ◌+◌, ◌-◌, ◌<◌, ◌≤◌, ◌==◌, true, [], ◌∷◌, length, is_some, Some, None, if◌then◌else◌, slice_index};
 ghost use Rattle.std.specs.Option.{option_map};
 ghost use Rattle.device.specs.Meaning.{blocks_of, reading, written, flushed};
 ghost use Rattle.page.specs.Block.{block_at, decode};
@@ -30,7 +30,7 @@ pub struct Store<D: Device> {
 
 // What the device means, and the counts.
 impl<D: Device> Model for Store<D> {
-    ghost use Rattle.std.specs.Prelude.{◌≡◌, length, vec_items};
+    ghost use Rattle.std.specs.Prelude.{◌≡◌, length};
     ghost use Rattle.counts.specs.Moves.{State};
 
     ghost Value = { State };

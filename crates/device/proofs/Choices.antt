@@ -2,8 +2,8 @@
 use Rattle.std.proofs.Common.{◌≡◌, ℕ, zero, suc, ◌+◌, ◌<◌, ◌≤◌, List, [], ◌∷◌, map, length, get_or, sym, refl, ap, ◌∙◌, subst, ap₂, inl, inr, ⊎_elim, arith}
 use Rattle.std.specs.List.{AllByRecursion}
 use Rattle.std.proofs.lemmas.List.{length-map, get_or-set_same, get_or-set_other, length-set}
-use Rattle.device.specs.Meaning.{Content, Cell, Meaning, blocks_of, no_cell, written, written_cell, flushed, flushed_cell, Lawful, LawfulCell, Cut, CutCell, CutTo, cell_at}
-use Rattle.device.specs.Cuts.{Op, Op.write, Op.flush, apply, replay, Choice, Choice.old, Choice.new, Choice.other, Cutting, remains, cut_cell, cut_cells, cut, Fits, CutsAgree}
+use Rattle.device.specs.Meaning.{Content, Cell, Meaning, blocks_of, no_cell, endless, written, written_cell, flushed, flushed_cell, Lawful, LawfulCell, Cut, CutCell, CutTo, cell_at}
+use Rattle.device.specs.Cuts.{Op, Op.write, Op.flush, apply, replay, Choice, Choice.persisted, Choice.current, Choice.other, Cutting, remains, cut_cell, cut_cells, cut, Fits, CutsAgree}
 
 cells_length : (k : ℕ → Choice) (i : ℕ) (cs : List Cell) → length (cut_cells k i cs) ≡ length cs
 cells_length k i [] = refl
@@ -48,43 +48,38 @@ width_replay (write b ws ∷ os) m = width_replay os (apply (write b ws) m)
 width_replay (flush ∷ os) m = width_replay os (apply flush m)
 
 -- by choice, so by the rule
-remains_cut : (w n : ℕ) (k : Choice) (c : Cell) → c.mark ≡ n → LawfulCell w c → Fits w k → CutTo w c (remains n k c)
-remains_cut w zero k c e l f = inl (e, refl)
-remains_cut w (suc zero) old c e l f = inr (inl (e, inl refl))
-remains_cut w (suc zero) new c e l f = inr (inl (e, inr refl))
-remains_cut w (suc zero) (other x) c e l f = inr (inl (e, inr refl))
-remains_cut w (suc (suc n)) old c e l f = inr (inr (omega arith, l.persisted))
-remains_cut w (suc (suc n)) new c e l f = inr (inr (omega arith, l.current))
-remains_cut w (suc (suc n)) (other x) c e l f = inr (inr (omega arith, f))
+remains_cut : (w n : ℕ) (k : Choice) (c : Cell) → LawfulCell w c → Fits w k → CutTo w n c (remains n k c)
+remains_cut w zero k c l f = refl
+remains_cut w (suc zero) persisted c l f = inl refl
+remains_cut w (suc zero) current c l f = inr refl
+remains_cut w (suc zero) (other x) c l f = inr refl
+remains_cut w (suc (suc n)) persisted c l f = l.persisted
+remains_cut w (suc (suc n)) current c l f = l.current
+remains_cut w (suc (suc n)) (other x) c l f = f
 
 all_at : (P : Cell → Type 0) (cs : List Cell) (b : ℕ) → AllByRecursion P cs → b < length cs → P (get_or cs b no_cell)
 all_at P [] b a h = absurd (omega arith)
 all_at P (c ∷ cs) zero a h = a.0
 all_at P (c ∷ cs) (suc b) a h = all_at P cs b a.1 (omega arith)
 
-to_rule : (κ : Cutting) (m : Meaning) → Lawful m → ((b : ℕ) → Fits m.width (κ.choice b)) → κ.left ≤ 4294967295 → Cut m (cut κ m)
-to_rule κ m l f h = record {
+to_rule : (κ : Cutting) (m : Meaning) → Lawful m → ((b : ℕ) → Fits m.width (κ.choice b)) → κ.left ≤ endless → κ.left_mark.depth ≤ 255 → Cut m (cut κ m)
+to_rule κ m l f h d = record {
   width = refl;
   blocks = cut_blocks κ m;
   left = h;
+  left_mark = d;
   cells = λ b i. subst (λ d. CutCell m.width (cell_at m b) d) (sym (cut_at κ m b)) (record {
     mark = refl;
     equal = refl;
-    from = remains_cut m.width (cell_at m b).mark (κ.choice b) (cell_at m b) refl (all_at (LawfulCell m.width) m.cells b l.cells i) (f b);
+    from = remains_cut m.width (cell_at m b).mark (κ.choice b) (cell_at m b) (all_at (LawfulCell m.width) m.cells b l.cells i) (f b);
   });
 }
 
 -- by the rule, so by choice
-at_two : (n : ℕ) (c : Cell) (x : Content) → 2 ≤ n → remains n (other x) c ≡ x
-at_two zero c x h = absurd (omega arith)
-at_two (suc zero) c x h = absurd (omega arith)
-at_two (suc (suc n)) c x h = refl
-
-chosen : (w : ℕ) (c d : Cell) → CutTo w c d.current → (k : Choice) × Fits w k × (remains c.mark k c ≡ d.current)
-chosen w c d (inl z) = (new, tt, ap (λ n. remains n new c) z.0 ∙ sym z.1)
-chosen w c d (inr (inl y)) =
-    ⊎_elim (λ o. (old, tt, ap (λ n. remains n old c) y.0 ∙ sym o)) (λ n. (new, tt, ap (λ i. remains i new c) y.0 ∙ sym n)) y.1
-chosen w c d (inr (inr y)) = (other d.current, y.1, at_two c.mark c d.current y.0)
+chosen : (w n : ℕ) (c : Cell) (x : Content) → CutTo w n c x → (k : Choice) × Fits w k × (remains n k c ≡ x)
+chosen w zero c x t = (current, tt, sym t)
+chosen w (suc zero) c x t = ⊎_elim (λ o. (persisted, tt, sym o)) (λ n. (current, tt, sym n)) t
+chosen w (suc (suc n)) c x t = (other x, t, refl)
 
 abbrev one : Choice → (ℕ → Choice) → ℕ → Choice
 one p k zero = p
@@ -103,12 +98,12 @@ like w c d x = λ i. record { persisted = sym x.equal i; current = d.current; ma
 -- a choice for each block
 all_choices : (w : ℕ) (cs ds : List Cell) → length ds ≡ length cs → ((b : ℕ) → b < length cs → CutCell w (get_or cs b no_cell) (get_or ds b no_cell))
     → (k : ℕ → Choice) × ((b : ℕ) → b < length cs → Fits w (k b)) × ((i : ℕ) (j : ℕ → Choice) → ((b : ℕ) → j (i + b) ≡ k b) → ds ≡ cut_cells j i cs)
-all_choices w [] [] e h = ((λ b. old), (λ b i. tt), (λ i j q. refl))
+all_choices w [] [] e h = ((λ b. persisted), (λ b i. tt), (λ i j q. refl))
 all_choices w [] (d ∷ ds) e h = absurd (omega (arith, e))
 all_choices w (c ∷ cs) [] e h = absurd (omega (arith, e))
 all_choices w (c ∷ cs) (d ∷ ds) e h =
     let x = h 0 (omega arith) in
-    let p = chosen w c d x.from in
+    let p = chosen w c.mark c d.current x.from in
     let r = all_choices w cs ds (omega (arith, e)) (λ b i. h (suc b) (omega arith)) in
     let k : ℕ → Choice = λ b. one p.0 r.0 b in (
       k,

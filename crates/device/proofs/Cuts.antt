@@ -1,27 +1,30 @@
 -- What a cut leaves, by the mark; what it leaves is flushed already; and cuts before and after a call.
-use Rattle.std.proofs.Common.{◌≡◌, ℕ, ◌<◌, ◌≤◌, ◌⊎◌, List, map, get_or, sym, refl, ap, ◌∙◌, subst, inl, inr, ⊎_elim, arith}
+use Rattle.std.proofs.Common.{◌≡◌, ℕ, zero, suc, min, ◌+◌, ◌<◌, ◌≤◌, ◌⊎◌, List, map, get_or, sym, refl, ap, ◌∙◌, subst, inl, inr, ⊎_elim, arith}
 use Rattle.std.proofs.lemmas.Bool.{cases_eq}
 use Rattle.std.proofs.lemmas.List.{same_lists, length-map, length-set, get_or-map, get_or_default}
 use Rattle.std.proofs.ByRecursion.{All-get_or}
-use Rattle.device.specs.Meaning.{Meaning, Cell, Content, Held, Lawful, LawfulCell, Cut, CutCell, CutTo, flushed, flushed_cell, written, written_cell, no_cell, blocks_of, cell_at}
+use Rattle.device.specs.Meaning.{Meaning, Cell, Content, Held, Lawful, LawfulCell, Cut, CutCell, CutTo, cell_at, flushed, flushed_cell, written, written_cell, no_cell, blocks_of}
 use Rattle.device.proofs.Choices.{flush_at, write_at, write_off}
 
--- what a cut leaves, by the mark
-module _ (w : ℕ) (c : Cell) (x : Content) where
-  pub clean : CutTo w c x → c.mark ≡ 0 → x ≡ c.current
-  clean t z = ⊎_elim (λ h. h.1) (⊎_elim (λ h. absurd (omega (arith, h.0))) (λ h. absurd (omega (arith, h.0)))) t
+-- what a cut leaves, by the mark k
+pub clean : (w k : ℕ) (c : Cell) (x : Content) → CutTo w k c x → k ≡ 0 → x ≡ c.current
+clean w zero c x t z = t
+clean w (suc k) c x t z = absurd (omega (arith, z))
 
-  pub once : CutTo w c x → c.mark ≡ 1 → (x ≡ c.persisted) ⊎ (x ≡ c.current)
-  once t z = ⊎_elim (λ h. absurd (omega (arith, h.0))) (⊎_elim (λ h. h.1) (λ h. absurd (omega (arith, h.0)))) t
+pub once : (w k : ℕ) (c : Cell) (x : Content) → CutTo w k c x → k ≡ 1 → (x ≡ c.persisted) ⊎ (x ≡ c.current)
+once w zero c x t z = absurd (omega (arith, z))
+once w (suc zero) c x t z = t
+once w (suc (suc k)) c x t z = absurd (omega (arith, z))
 
-  pub often : CutTo w c x → 2 ≤ c.mark → Held w x
-  often t z = ⊎_elim (λ h. absurd (omega (arith, h.0))) (⊎_elim (λ h. absurd (omega (arith, h.0))) (λ h. h.1)) t
+pub often : (w k : ℕ) (c : Cell) (x : Content) → CutTo w k c x → 2 ≤ k → Held w x
+often w zero c x t z = absurd (omega (arith, z))
+often w (suc zero) c x t z = absurd (omega (arith, z))
+often w (suc (suc k)) c x t z = t
 
-  pub any : LawfulCell w c → CutTo w c x → Held w x
-  any l =
-      ⊎_elim
-      (λ h. subst (Held w) (sym h.1) l.current)
-      (⊎_elim (λ h. ⊎_elim (λ e. subst (Held w) (sym e) l.persisted) (λ e. subst (Held w) (sym e) l.current) h.1) (λ h. h.1))
+pub any : (w k : ℕ) (c : Cell) (x : Content) → LawfulCell w c → CutTo w k c x → Held w x
+any w zero c x l t = subst (Held w) (sym t) l.current
+any w (suc zero) c x l t = ⊎_elim (λ e. subst (Held w) (sym e) l.persisted) (λ e. subst (Held w) (sym e) l.current) t
+any w (suc (suc k)) c x l t = t
 
 -- a cut of what a cut left
 pub cut_again : (m n p : Meaning) → Cut m n → Cut n p → Cut m p
@@ -34,9 +37,10 @@ cut_again m n p k l = record {
       record {
         mark = d.mark;
         equal = d.equal;
-        from = subst (CutTo m.width (cell_at m b)) (sym (clean m.width (cell_at n b) (cell_at p b).current d.from c.mark)) c.from;
+        from = subst (CutTo m.width (cell_at m b).mark (cell_at m b)) (sym (clean m.width (cell_at n b).mark (cell_at n b) (cell_at p b).current d.from c.mark)) c.from;
       };
   left = l.left;
+  left_mark = l.left_mark;
 }
 
 still : (w : ℕ) (c d : Cell) → CutCell w c d → flushed_cell d ≡ d
@@ -57,12 +61,12 @@ cut_flushed m n k = ap (λ (cs : List Cell). with_cells cs)
     with_cells cs = record { width = n.width; cells = cs; left = n.left; left_mark = n.left_mark }
 
 -- A write that has not begun counts as done, and a flush that is done as not begun.
-unbegun : (w : ℕ) (ws : List ℕ) (c : Cell) (x : Content) → LawfulCell w c → CutTo w c x → CutTo w (written_cell ws c) x
-unbegun w ws c x l t =
-    ⊎_elim
-    (λ (z : c.mark ≡ 0). inr (inl (omega (arith, z), inl (clean w c x t z ∙ sym (l.clean z)))))
-    (λ (nz : c.mark ≡ 0 → ⊥). inr (inr (omega arith, any w c x l t)))
-    (cases_eq c.mark 0)
+unbegun : (w k : ℕ) (ws : List ℕ) (c : Cell) (x : Content) → k ≡ c.mark → LawfulCell w c → CutTo w k c x → CutTo w (written_cell ws c).mark (written_cell ws c) x
+unbegun w zero ws c x e l t =
+    subst (λ n. CutTo w n (written_cell ws c) x) (ap (λ n. min (n + 1) 2) e) (inl (t ∙ sym (l.clean (sym e))))
+unbegun w (suc k) ws c x e l t =
+    let two : 2 ≡ min (c.mark + 1) 2 = omega (arith, e) in
+    subst (λ n. CutTo w n (written_cell ws c) x) two (any w (suc k) c x l t)
 
 pub cut_unwritten : (m n : Meaning) (b : ℕ) (ws : List ℕ) → Lawful m → Cut m n → Cut (written m b ws) n
 cut_unwritten m n b ws l k =
@@ -79,23 +83,19 @@ cut_unwritten m n b ws l k =
           (record {
             mark = d.mark;
             equal = d.equal;
-            from = unbegun m.width ws (cell_at m i) (cell_at n i).current (All-get_or (LawfulCell m.width) m.cells i no_cell i< l.cells) d.from;
+            from = unbegun m.width (cell_at m i).mark ws (cell_at m i) (cell_at n i).current refl (All-get_or (LawfulCell m.width) m.cells i no_cell i< l.cells) d.from;
           }))
           (λ (ne : i ≡ b → ⊥). subst (λ c. CutCell m.width c (cell_at n i)) (sym (write_off m b i ws ne)) d)
           (cases_eq i b);
       left = k.left;
+      left_mark = k.left_mark;
     }
 
-settled : (w : ℕ) (c : Cell) (x : Content) → LawfulCell w c → x ≡ c.current → CutTo w c x
-settled w c x l e =
-    ⊎_elim
-    (λ (z : c.mark ≡ 0). inl (z, e))
-    (λ (nz : c.mark ≡ 0 → ⊥).
-    ⊎_elim
-    (λ (o : c.mark ≡ 1). inr (inl (o, inr e)))
-    (λ (no : c.mark ≡ 1 → ⊥). inr (inr (omega arith, subst (Held w) (sym e) l.current)))
-    (cases_eq c.mark 1))
-    (cases_eq c.mark 0)
+-- what is flushed is a cut
+settled : (w k : ℕ) (c : Cell) (x : Content) → LawfulCell w c → x ≡ c.current → CutTo w k c x
+settled w zero c x l e = e
+settled w (suc zero) c x l e = inr e
+settled w (suc (suc n)) c x l e = subst (Held w) (sym e) l.current
 
 pub cut_unflushed : (m n : Meaning) → Lawful m → Cut (flushed m) n → Cut m n
 cut_unflushed m n l k =
@@ -108,8 +108,9 @@ cut_unflushed m n l k =
           record {
             mark = d.mark;
             equal = d.equal;
-            from = settled m.width (cell_at m i) (cell_at n i).current (All-get_or (LawfulCell m.width) m.cells i no_cell h l.cells)
-                (clean m.width (flushed_cell (cell_at m i)) (cell_at n i).current d.from refl);
+            from = settled m.width (cell_at m i).mark (cell_at m i) (cell_at n i).current (All-get_or (LawfulCell m.width) m.cells i no_cell h l.cells)
+                d.from;
           };
       left = k.left;
+      left_mark = k.left_mark;
     }

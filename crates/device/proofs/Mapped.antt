@@ -1,5 +1,5 @@
 -- A layer that shows each content by a function of it: what is lawful, flushed or cut below is so above.
-use Rattle.std.proofs.Common.{◌≡◌, ℕ, List, [], ◌∷◌, map, refl, ap, inl, inr, ⊎_elim}
+use Rattle.std.proofs.Common.{◌≡◌, ℕ, zero, suc, List, [], ◌∷◌, map, refl, ap, inl, inr, ⊎_elim}
 use Rattle.device.specs.Meaning.{Content, Cell, Held, LawfulCell, flushed_cell, CutTo, CutCell}
 use Rattle.device.specs.Mapped.{mapped_cell}
 
@@ -18,13 +18,10 @@ module _ (f : Content → Content) where
       clean = λ e. ap f (l.clean e);
     }
 
-    mapped_to : (c : Cell) (x : Content) → CutTo v c x → CutTo w (mapped_cell f c) (f x)
-    mapped_to c x =
-        ⊎_elim
-        (λ h. inl (h.0, ap f h.1))
-        (⊎_elim
-        (λ h. inr (inl (h.0, ⊎_elim (λ e. inl (ap f e)) (λ e. inr (ap f e)) h.1)))
-        (λ h. inr (inr (h.0, keeps x h.1))))
+    mapped_to : (n : ℕ) (c : Cell) (x : Content) → CutTo v n c x → CutTo w n (mapped_cell f c) (f x)
+    mapped_to zero c x t = ap f t
+    mapped_to (suc zero) c x t = ⊎_elim (λ e. inl (ap f e)) (λ e. inr (ap f e)) t
+    mapped_to (suc (suc n)) c x t = keeps x t
 
     pub mapped_cut : (c d : Cell) → CutCell v c d → CutCell w (mapped_cell f c) (mapped_cell f d)
-    mapped_cut c d k = record { mark = k.mark; equal = ap f k.equal; from = mapped_to c d.current k.from }
+    mapped_cut c d k = record { mark = k.mark; equal = ap f k.equal; from = mapped_to c.mark c d.current k.from }

@@ -2,3 +2,4 @@ pub mod Meaning
 pub mod Cuts
 pub mod Mapped
 pub mod Numbers
+pub mod Showing

@@ -1,5 +1,5 @@
 -- What a block device means: its blocks with their contents and marks, and the writes that are left.
-use Rattle.std.specs.Prelude.{◌≡◌, ℕ, ◌+◌, ◌-◌, ◌^◌, ◌<◌, ◌≤◌, min, cond, ◌⊎◌, List, [], map, length, Ok, Err, Result, ◌==◌, nat_lt, slice_index_or, slice_set}
+use Rattle.std.specs.Prelude.{◌≡◌, ℕ, zero, suc, ◌+◌, ◌-◌, ◌^◌, ◌<◌, ◌≤◌, min, cond, ◌⊎◌, List, [], map, length, Ok, Err, Result, ◌==◌, nat_lt, slice_index_or, slice_set}
 use Rattle.std.specs.List.{AllByRecursion}
 use Rattle.device.specs.declared.Layer.{Layer}
 use Rattle.device.specs.declared.LayerMark.{LayerMark}
@@ -38,6 +38,24 @@ cell_at m b = slice_index_or m.cells b no_cell
 abbrev pub current_at : Meaning → ℕ → Content
 current_at m b = (cell_at m b).current
 
+-- What a reader shows: the words of a block, and what each block holds.
+pub record Shown : Type 0 where
+  pub width : ℕ
+  pub contents : List Content
+
+abbrev pub count_of : Shown → ℕ
+count_of s = length s.contents
+
+abbrev pub content_at : Shown → ℕ → Content
+content_at s b = slice_index_or s.contents b (words [])
+
+-- what a device shows to a reader: its current contents
+abbrev pub current_of : Cell → Content
+current_of c = c.current
+
+abbrev pub shown_of : Meaning → Shown
+shown_of m = record { width = m.width; contents = map current_of m.cells }
+
 -- The mark of a fault: where it is found, and one layer further up.
 abbrev pub own : Layer → LayerMark
 own l = record { layer = l; depth = 0 }
@@ -52,11 +70,11 @@ raised_fault (Worn k) = Worn (raised k)
 raised_fault (Damaged k) = Damaged (raised k)
 
 -- What is looked at first in reading and writing n words of block b: the length, and then the block. Where both are right, x.
-abbrev pub gate : {X : Type 0} → Layer → Meaning → ℕ → ℕ → Result X DeviceFault → Result X DeviceFault
-gate l m b n x = cond (n == m.width) (cond (nat_lt b (blocks_of m)) x (Err (Range (own l)))) (Err (Length (own l)))
+abbrev pub gate : {X : Type 0} → Layer → Shown → ℕ → ℕ → Result X DeviceFault → Result X DeviceFault
+gate l s b n x = cond (n == s.width) (cond (nat_lt b (count_of s)) x (Err (Range (own l)))) (Err (Length (own l)))
 
-abbrev pub admitted : Layer → Meaning → ℕ → ℕ → Result Unit DeviceFault
-admitted l m b n = gate l m b n (Ok tt)
+abbrev pub admitted : Layer → Shown → ℕ → ℕ → Result Unit DeviceFault
+admitted l s b n = gate l s b n (Ok tt)
 
 -- what a content gives to a reader
 abbrev pub held : Content → Result (List ℕ) DeviceFault
@@ -64,8 +82,8 @@ held (words ws) = Ok ws
 held (damaged k) = Err (Damaged k)
 
 -- Reading n words of block b: the words, or the refusal. The content is looked at last.
-abbrev pub reading : Layer → Meaning → ℕ → ℕ → Result (List ℕ) DeviceFault
-reading l m b n = gate l m b n (held (current_at m b))
+abbrev pub reading : Layer → Shown → ℕ → ℕ → Result (List ℕ) DeviceFault
+reading l s b n = gate l s b n (held (content_at s b))
 
 abbrev pub answered : Result (List ℕ) DeviceFault → Result Unit DeviceFault
 answered (Ok ws) = Ok tt
@@ -81,7 +99,7 @@ spending m = cond (nat_lt 0 m.left) (Ok tt) (Err (Worn m.left_mark))
 
 -- Writing n words to block b: the writes that are left are looked at last.
 abbrev pub writing : Layer → Meaning → ℕ → ℕ → Result Unit DeviceFault
-writing l m b n = gate l m b n (spending m)
+writing l m b n = gate l (shown_of m) b n (spending m)
 
 -- an answer from below, one layer up
 abbrev pub passed : Result Unit DeviceFault → Result Unit DeviceFault
@@ -134,25 +152,32 @@ pub record LawfulCell (w : ℕ) (c : Cell) : Type 0 where
   pub clean : c.mark ≡ 0 → c.persisted ≡ c.current
 
 pub record Lawful (m : Meaning) : Type 0 where
-  pub some : 1 ≤ blocks_of m
-  pub few : blocks_of m ≤ 4096
-  pub broad : 1 ≤ m.width
-  pub narrow : m.width ≤ 64
+  pub limits : Limits (blocks_of m) m.width
   pub cells : AllByRecursion (LawfulCell m.width) m.cells
-  pub left : m.left ≤ 4294967295
+  pub left : m.left ≤ endless
+  pub left_mark : m.left_mark.depth ≤ 255
 
--- A cut of the power: a block of mark 0 keeps its content, one of mark 1 holds its persisted or its current content,
--- one of mark 2 any words or damage. Then no block is marked, and the writes left may be any number.
-abbrev pub CutTo : ℕ → Cell → Content → Type 0
-CutTo w c x = ((c.mark ≡ 0) × (x ≡ c.current)) ⊎ (((c.mark ≡ 1) × ((x ≡ c.persisted) ⊎ (x ≡ c.current))) ⊎ ((2 ≤ c.mark) × Held w x))
+-- What every reader keeps.
+pub record Readable (s : Shown) : Type 0 where
+  pub limits : Limits (count_of s) s.width
+  pub contents : AllByRecursion (Held s.width) s.contents
 
+-- A cut of the power leaves x of a block, by its mark: its content at 0; its persisted or its current content, whole, at 1;
+-- any words or damage at 2.
+abbrev pub CutTo : ℕ → ℕ → Cell → Content → Type 0
+CutTo w zero c x = x ≡ c.current
+CutTo w (suc zero) c x = (x ≡ c.persisted) ⊎ (x ≡ c.current)
+CutTo w (suc (suc n)) c x = Held w x
+
+-- Then no block is marked, and the writes left may be any number.
 pub record CutCell (w : ℕ) (c d : Cell) : Type 0 where
   pub mark : d.mark ≡ 0
   pub equal : d.persisted ≡ d.current
-  pub from : CutTo w c d.current
+  pub from : CutTo w c.mark c d.current
 
 pub record Cut (m n : Meaning) : Type 0 where
   pub width : n.width ≡ m.width
   pub blocks : blocks_of n ≡ blocks_of m
   pub cells : (b : ℕ) → b < blocks_of m → CutCell m.width (cell_at m b) (cell_at n b)
-  pub left : n.left ≤ 4294967295
+  pub left : n.left ≤ endless
+  pub left_mark : n.left_mark.depth ≤ 255

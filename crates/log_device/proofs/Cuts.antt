@@ -10,12 +10,12 @@ use Rattle.log_device.specs.Fit.{cell_fit}
 use Rattle.log_device.proofs.Facts.{kind_word, payload_word, same_record, fits_in}
 
 -- a cut may leave either content of a block
-either : (w m : ℕ) (c : Cell) (x : Content) → c.mark ≡ m → LawfulCell w c → (x ≡ c.persisted) ⊎ (x ≡ c.current) → CutTo w c x
-either w zero c x e l (inl p) = inl (e, p ∙ l.clean e)
-either w zero c x e l (inr p) = inl (e, p)
-either w (suc zero) c x e l p = inr (inl (e, p))
-either w (suc (suc m)) c x e l (inl p) = inr (inr (omega arith, subst (λ y. Held w y) (sym p) l.persisted))
-either w (suc (suc m)) c x e l (inr p) = inr (inr (omega arith, subst (λ y. Held w y) (sym p) l.current))
+either : (w m : ℕ) (c : Cell) (x : Content) → c.mark ≡ m → LawfulCell w c → (x ≡ c.persisted) ⊎ (x ≡ c.current) → CutTo w m c x
+either w zero c x e l (inl p) = p ∙ l.clean e
+either w zero c x e l (inr p) = p
+either w (suc zero) c x e l p = p
+either w (suc (suc m)) c x e l (inl p) = subst (λ y. Held w y) (sym p) l.persisted
+either w (suc (suc m)) c x e l (inr p) = subst (λ y. Held w y) (sym p) l.current
 
 module _ (img left : List ℕ) (n w k : ℕ) (s : Sound img n w k) (l : Leaves w k img left) where
   -- the head counts the records flushed last, or all
@@ -80,6 +80,7 @@ module _ (img left : List ℕ) (n w k : ℕ) (s : Sound img n w k) (l : Leaves w
         (subst (CutCell w (log_cell w (records w img k) (flushed_in img) b))
         (sym (get_or_table (log_cell w (records w left (flushed_in left)) (flushed_in left)) n b no_cell h₁)) (cell b));
     left = omega arith;
+    left_mark = omega arith;
   }
 
   pub formed : Formed left n w

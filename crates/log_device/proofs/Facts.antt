@@ -8,12 +8,13 @@ use Rattle.std.proofs.ByRecursion.{All-append, All-take, All-drop, All-set}
 use Rattle.std.proofs.lemmas.Slice.{between-put_mid, take-put_mid_below}
 use Rattle.std.proofs.lemmas.List.FromFn.{length-map-range_with_len, map-range_with_len_more}
 use Rattle.std.proofs.lemmas.Bool.{cases_eq, eq-eqb, ne_eqb}
-use Rattle.device.specs.Meaning.{Meaning, Cell, words, held, reading, admitted, written, written_cell, flushed, flushed_cell, no_cell, own, spent}
+use Rattle.device.specs.Meaning.{Meaning, Content, Cell, shown_of, words, held, reading, admitted, written, written_cell, flushed, flushed_cell, no_cell, own, spent}
 use Rattle.device.specs.declared.Layer.TheVariants.{Log}
+use Rattle.device.specs.Showing.{count_shown, content_shown}
 use Rattle.device.proofs.Calls.{let_in, reading_at}
 use Rattle.device.proofs.Tables.{get_or_table, set_table, same_table, map_map, rows}
 use Rattle.word.specs.Words.{kind_of, payload_of, word_of}
-use Rattle.log_device.specs.Log.{Record, last_of, count_of, log_cell, logged, record_at, records, flushed_in, capacity, log_of, Sound, place_of, IsRecord}
+use Rattle.log_device.specs.Log.{Record, last_of, count_of, log_cell, logged, record_at, records, flushed_in, capacity, log_of, Sound, place_of, with_record, IsRecord}
 use Rattle.log_device.specs.Fit.{last_append}
 
 abbrev make : ℕ → List Cell → ℕ → Meaning
@@ -100,15 +101,17 @@ pub same_record : (w : ℕ) (img img' : List ℕ) (i : ℕ) → get_or img' (pla
 same_record w img img' i p q = ap (λ x. (payload_of x, take w (drop (place_of w i + 1) img'))) p ∙ ap (λ ys. (payload_of (get_or img (place_of w i) 0), ys)) q
 
 -- what is admitted has the right length and a block that is there
-pub admitted_at : (img : List ℕ) (n w k b len : ℕ) → Ok tt ≡ admitted Log (log_of img n w k) b len → (len ≡ w) × (b < n)
+pub admitted_at : (img : List ℕ) (n w k b len : ℕ) → Ok tt ≡ admitted Log (shown_of (log_of img n w k)) b len → (len ≡ w) × (b < n)
 admitted_at img n w k b len e =
-    let t = let_in Log (log_of img n w k) b len e in
-    (t.0, omega (arith, t.1, length-map-range_with_len (log_cell w (records w img k) (flushed_in img)) 0 n))
+    let t = let_in Log (shown_of (log_of img n w k)) b len e in
+    (t.0, omega (arith, t.1, count_shown (log_of img n w k), length-map-range_with_len (log_cell w (records w img k) (flushed_in img)) 0 n))
 
-pub read_at : (img : List ℕ) (n w k b len : ℕ) → b < n → len ≡ w → reading Log (log_of img n w k) b len ≡ Ok (last_of (records w img k) b (replicate w 0))
+pub read_at : (img : List ℕ) (n w k b len : ℕ) → b < n → len ≡ w → reading Log (shown_of (log_of img n w k)) b len ≡ Ok (last_of (records w img k) b (replicate w 0))
 read_at img n w k b len h e =
     let cell = log_cell w (records w img k) (flushed_in img) in
-    reading_at Log (log_of img n w k) b len e (simp length-map-range_with_len h) ∙ ap (λ (c : Cell). held c.current) (get_or_table cell n b no_cell h)
+    let m = log_of img n w k in
+    reading_at Log (shown_of m) b len e (omega (arith, count_shown m, length-map-range_with_len cell 0 n, h))
+    ∙ ap (λ (f : ℕ → Content). held (f b)) (content_shown m) ∙ ap (λ (c : Cell). held c.current) (get_or_table cell n b no_cell h)
 
 -- the head is set
 module _ (img : List ℕ) (n w k : ℕ) (s : Sound img n w k) where
@@ -210,6 +213,9 @@ module _ (img : List ℕ) (n w k : ℕ) (s : Sound img n w k) (b : ℕ) (ws : Li
       ∙ ap (λ j. logged n w (records w img k ++ ((b, ws) ∷ [])) j (capacity (length put) w)) f
       ∙ ap (λ j. logged n w (records w img k ++ ((b, ws) ∷ [])) (flushed_in img) (capacity j w)) put_length
       ∙ logged_written n w (records w img k) (flushed_in img) (capacity (length img) w) b ws h (omega (arith, l, s.flushed)) (omega (arith, l)) (omega arith)
+
+  pub put_is : put ≡ with_record w img k b ws
+  put_is = ap (λ ys. take (place_of w k) img ++ ((word_of 9 b ∷ ws) ++ ys)) (drop-drop c (place_of w k) img ∙ ap (λ j. drop j img) (omega (arith, add-mul k 1 (w + 1))))
 
   pub write_sound : Sound put n w (k + 1)
   write_sound = record {

@@ -1,13 +1,14 @@
 -- What the log keeps makes its meaning lawful.
 use Rattle.std.specs.Prelude.{◌≡◌, ℕ, zero, suc, ◌+◌, ◌^◌, ◌<◌, Bool, true, false, cond, List, [], ◌∷◌, ◌++◌, length, take, drop, replicate, ◌==◌, refl}
-use Rattle.std.proofs.Common.{sym, ap, ◌∙◌, arith}
+use Rattle.std.proofs.Common.{sym, ap, ◌∙◌, subst, arith}
 use Rattle.std.specs.List.{AllByRecursion}
 use Rattle.std.proofs.lemmas.List.{length-take-le, length-drop, take-append-drop, length-replicate}
 use Rattle.std.proofs.ByRecursion.{All-take, All-drop}
 use Rattle.std.proofs.lemmas.List.FromFn.{length-map-range_with_len}
-use Rattle.device.specs.Meaning.{LawfulCell, Lawful, Words, words}
+use Rattle.device.specs.Meaning.{Limits, LawfulCell, Lawful, Words, words}
+use Rattle.device.specs.Cuts.{Op}
 use Rattle.device.proofs.Tables.{all_table, rows}
-use Rattle.log_device.specs.Log.{Record, last_of, count_of, log_cell, record_at, records, place_of, flushed_in, log_of, Sound}
+use Rattle.log_device.specs.Log.{Record, last_of, count_of, log_cell, record_at, records, place_of, flushed_in, log_of, Sound, Image, imaged, replay_image}
 
 words_if : (t : Bool) (w : ℕ) (x y : List ℕ) → Words w x → Words w y → Words w (cond t x y)
 words_if true w x y h k = h
@@ -59,10 +60,13 @@ module _ (img : List ℕ) (n w k : ℕ) (s : Sound img n w k) where
   fit =
       let long : length (log_of img n w k).cells ≡ n = length-map-range_with_len (log_cell w (records w img k) (flushed_in img)) 0 n in
       record {
-        some = omega (arith, s.limits.some);
-        few = omega (arith, s.limits.few);
-        broad = s.limits.broad;
-        narrow = s.limits.narrow;
+        limits = subst (λ j. Limits j w) (sym long) s.limits;
         cells = all_table (LawfulCell w) (log_cell w (records w img k) (flushed_in img)) n (λ b h. cell_fit b);
         left = omega arith;
+        left_mark = omega arith;
       }
+
+-- lists of calls follow one another
+pub image_goes_on : (os ps : List Op) (i j k : Image) → j ≡ replay_image os i → k ≡ replay_image ps j → k ≡ replay_image (os ++ ps) i
+image_goes_on [] ps i j k e f = f ∙ ap (replay_image ps) e
+image_goes_on (o ∷ os) ps i j k e f = image_goes_on os ps (imaged o i) j k e f

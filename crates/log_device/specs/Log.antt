@@ -1,7 +1,8 @@
 -- What the log device means, what it keeps, and what a cut of the power may leave of it.
-use Rattle.std.specs.Prelude.{◌≡◌, ℕ, ◌+◌, ◌-◌, ◌*◌, ◌/◌, ◌^◌, ◌<◌, ◌≤◌, min, cond, ◌⊎◌, List, [], ◌∷◌, map, length, take, drop, replicate, ◌==◌, slice_index, slice_index_or, Option, None, Some}
+use Rattle.std.specs.Prelude.{◌≡◌, ℕ, ◌+◌, ◌-◌, ◌*◌, ◌/◌, ◌^◌, ◌<◌, ◌≤◌, min, cond, ◌⊎◌, List, [], ◌∷◌, ◌++◌, map, length, take, drop, replicate, ◌==◌, slice_index, slice_index_or, slice_set, Option, None, Some}
 use Rattle.std.specs.List.{range_with_len, AllByRecursion}
 use Rattle.device.specs.Meaning.{Meaning, Cell, Limits, words, own, Cut}
+use Rattle.device.specs.Cuts.{Op, Op.write, Op.flush}
 use Rattle.device.specs.declared.Layer.TheVariants.{Log}
 use Rattle.word.specs.Words.{kind_of, payload_of, word_of}
 
@@ -54,6 +55,28 @@ log_of img n w k = logged n w (records w img k) (flushed_in img) (capacity (leng
 -- as opened: the flushed records only
 abbrev pub opened_log : List ℕ → ℕ → ℕ → Meaning
 opened_log img n w = log_of img n w (flushed_in img)
+
+-- What a log is: the width of its blocks, the words of its image, and how many records stand in it.
+pub record Image : Type 0 where
+  pub width : ℕ
+  pub image : List ℕ
+  pub count : ℕ
+
+abbrev pub image_of : ℕ → List ℕ → ℕ → Image
+image_of w img k = record { width = w; image = img; count = k }
+
+-- the image with a record more in its place: the word of its block, and its content
+abbrev pub with_record : ℕ → List ℕ → ℕ → ℕ → List ℕ → List ℕ
+with_record w img k b ws = take (place_of w k) img ++ ((word_of 9 b ∷ ws) ++ drop (place_of w (k + 1)) img)
+
+-- What a device call makes of a log: a write puts the next record into its place, and a flush sets the head.
+abbrev pub imaged : Op → Image → Image
+imaged (write b ws) i = image_of i.width (with_record i.width i.image i.count b ws) (i.count + 1)
+imaged flush i = image_of i.width (slice_set i.image 0 (word_of 8 i.count)) i.count
+
+abbrev pub replay_image : List Op → Image → Image
+replay_image [] i = i
+replay_image (o ∷ os) i = replay_image os (imaged o i)
 
 -- the word of a record of one of n blocks
 abbrev pub IsRecord : ℕ → ℕ → Type 0

@@ -5,14 +5,17 @@
 ghost use Rattle.std.specs.Prelude.{◌≡◌, ◌+◌, ◌-◌, ◌*◌, ◌^◌, ◌<◌, ◌≤◌, ◌∷◌, length, take, drop, replicate, MatchBool, MatchOption, MatchResult, slice_index, slice_set};
 ghost use Rattle.std.specs.List.{AllByRecursion};
 ghost use Rattle.device.specs.declared.Layer.{Layer};
-ghost use Rattle.device.specs.Meaning.{Limits};
+ghost use Rattle.device.specs.Meaning.{Meaning, Limits, shown_of};
+ghost use Rattle.device.specs.Cuts.{replay, replay_goes_on};
+ghost use Rattle.device.specs.Showing.{readable};
+ghost use Rattle.std.proofs.Common.{refl, ap, sym};
 ghost use Rattle.std.proofs.Props.{props};
-ghost use Rattle.log_device.specs.Fit.{fit};
-ghost use Rattle.log_device.specs.Log.{log_of, opened_log, Sound, Indexed, records, last_of, capacity, IsRecord, AreRecords, Shaped, Formed, Outlasts, place_of, flushed_in};
+ghost use Rattle.log_device.specs.Fit.{fit, image_goes_on};
+ghost use Rattle.log_device.specs.Log.{log_of, opened_log, Image, image_of, replay_image, Sound, Indexed, records, last_of, capacity, IsRecord, AreRecords, Shaped, Formed, Outlasts, place_of, flushed_in};
 ghost use Rattle.log_device.specs.declared.LogRefusal.{LogRefusal};
 ghost use Rattle.log_device.specs.Refusals.{Refused, refusal_number};
 
-use device::{Device, DeviceFault, Layer, LayerMark, is_shape};
+use device::{Device, DeviceFault, Layer, LayerMark, Reader, is_shape};
 use std::alloc::{AllocError, Global};
 use word::{Kind, payload};
 
@@ -220,12 +223,15 @@ impl<'a> Log<'a> {
     }
 }
 
-impl<'a> Device for Log<'a> {
+impl<'a> Reader for Log<'a> {
     ghost code = { Layer.Log };
 
-    ghost meaning = { λ s. log_of s.image.now s.layout.blocks s.layout.width s.count };
+    ghost shown = { λ s. shown_of (log_of s.image.now s.layout.blocks s.layout.width s.count) };
 
-    ghost fit = { λ s. fit s.image.now s.layout.blocks s.layout.width s.count s.sound };
+    // The image too: the meaning hides the words of a record that has a later one of its block.
+    ghost Rest = { Meaning × Image };
+
+    ghost rest = { λ s. (log_of s.image.now s.layout.blocks s.layout.width s.count, image_of s.layout.width s.image.now s.count) };
 
     fn layer(&self) -> Layer {
         Layer::Log
@@ -239,11 +245,6 @@ impl<'a> Device for Log<'a> {
         self.layout.width as u32
     }
 
-    fn left(&self) -> (u32, LayerMark) {
-        let left = self.layout.capacity(self.image.len()) - self.count;
-        (left as u32, Layer::Log.own())
-    }
-
     fn read(&mut self, block: u32, out: &mut [u32]) -> Result<(), DeviceFault> {
         self.admit(block, out.len())?;
         match self.last(block) {
@@ -251,6 +252,21 @@ impl<'a> Device for Log<'a> {
             None => out.fill(0),
         }
         Ok(())
+    }
+
+    ghost readable = { λ s. readable (log_of s.image.now s.layout.blocks s.layout.width s.count) (fit s.image.now s.layout.blocks s.layout.width s.count s.sound) };
+}
+
+impl<'a> Device for Log<'a> {
+    ghost meaning = { λ s. log_of s.image.now s.layout.blocks s.layout.width s.count };
+
+    // Nothing lies below: the calls made the image what it is, word by word.
+    ghost led = { λ os x y. (image_of y.layout.width y.image.now y.count ≡ replay_image os (image_of x.layout.width x.image.now x.count))
+        × (log_of y.image.now y.layout.blocks y.layout.width y.count ≡ replay os (log_of x.image.now x.layout.blocks x.layout.width x.count)) };
+
+    fn left(&self) -> (u32, LayerMark) {
+        let left = self.layout.capacity(self.image.len()) - self.count;
+        (left as u32, Layer::Log.own())
     }
 
     fn write(&mut self, block: u32, words: &[u32]) -> Result<(), DeviceFault> {
@@ -269,6 +285,21 @@ impl<'a> Device for Log<'a> {
     fn flush(&mut self) {
         self.image[0] = Kind::Log.word(self.count as u32);
     }
+
+    ghost shows = { λ s. refl };
+
+    ghost kept = { λ x y shown rest. ap (λ q. q.0) rest };
+
+    ghost fit = { λ s. fit s.image.now s.layout.blocks s.layout.width s.count s.sound };
+
+    ghost quiet = { λ x y shown rest. (sym (ap (λ q. q.1) rest), sym (ap (λ q. q.0) rest)) };
+
+    ghost goes_on = { λ os ps x y z p q. (
+      image_goes_on os ps (image_of x.layout.width x.image.now x.count) (image_of y.layout.width y.image.now y.count) (image_of z.layout.width z.image.now z.count) p.0 q.0,
+      replay_goes_on os ps (log_of x.image.now x.layout.blocks x.layout.width x.count) (log_of y.image.now y.layout.blocks y.layout.width y.count) (log_of z.image.now z.layout.blocks z.layout.width z.count) p.1 q.1,
+    ) };
+
+    ghost replays = { λ os x y led. led.1 };
 }
 
 #[cfg(test)]

@@ -1,5 +1,5 @@
 -- What the device in memory does to its slices, and so to its meaning.
-use Rattle.std.proofs.Common.{◌≡◌, ℕ, zero, suc, ◌+◌, ◌-◌, ◌*◌, ◌^◌, ◌<◌, ◌≤◌, min, List, [], ◌∷◌, ◌++◌, map, length, get_or, take, drop, set, replicate, Ok, sym, refl, ap, ◌∙◌, subst, inl, inr, ⊎_elim, arith}
+use Rattle.std.proofs.Common.{◌≡◌, ℕ, zero, suc, ◌+◌, ◌-◌, ◌*◌, ◌^◌, ◌<◌, ◌≤◌, min, List, [], ◌∷◌, ◌++◌, map, length, get_or, take, drop, set, replicate, Ok, sym, refl, ap, ◌∙◌, subst, ⊎_elim, arith}
 use borrow.Rule.Slice.PartMut.{put_mid}
 use Rattle.std.specs.List.{range_with_len, AllByRecursion}
 use Rattle.std.proofs.lemmas.List.{length-set, length-append, length-take-le, length-drop, get_or-set_same, get_or-set_other, drop-take, get_or-replicate, length-replicate, take-append-drop, drop-drop, ext_get_or}
@@ -7,12 +7,13 @@ use Rattle.std.proofs.ByRecursion.{All-append, All-take, All-drop}
 use Rattle.std.proofs.lemmas.Slice.{between-put_mid, drop-put_mid, take-put_mid_below}
 use Rattle.std.proofs.lemmas.List.FromFn.{length-map-range_with_len}
 use Rattle.std.proofs.lemmas.Bool.{cases_eq, cases_lt, cases_order}
-use Rattle.device.specs.Meaning.{Meaning, Cell, Limits, words, admitted, reading, held, written, written_cell, flushed, flushed_cell, no_cell, own, endless, Cut, CutCell, CutTo}
+use Rattle.device.specs.Meaning.{Meaning, Content, Cell, shown_of, Limits, words, admitted, reading, held, written, written_cell, flushed, flushed_cell, no_cell, own, endless, Cut, CutCell}
 use Rattle.device.specs.declared.Layer.TheVariants.{Memory}
+use Rattle.device.specs.Showing.{count_shown, content_shown}
 use Rattle.device.proofs.Calls.{let_in, reading_at}
 use Rattle.device.proofs.Tables.{map_map, get_or_table, set_table, same_table, rows}
 use Rattle.memory.specs.Fit.{block_length}
-use Rattle.memory.specs.Memory.{Parts, parts, memory, cleared, Sound, block_of, cell_of, Leaves, LeavesBlock, Outlasts}
+use Rattle.memory.specs.Memory.{Parts, parts, memory, cleared, Shaped, Sound, block_of, cell_of, Leaves, Outlasts}
 
 module _ (xs : List ℕ) (w n : ℕ) (long : length xs ≡ n * w) where
   module _ (b k : ℕ) (ys : List ℕ) (h : b < n) (size : length ys ≡ w) (count : k ≡ w) where
@@ -41,10 +42,10 @@ module _ (xs : List ℕ) (w n : ℕ) (long : length xs ≡ n * w) where
     put_all P px py = All-append P _ _ (All-take P (b * w) xs px) (All-append P _ _ py (All-drop P k _ (All-drop P (b * w) xs px)))
 
 -- what is admitted has the right length and a block that is there
-pub admitted_at : (p : Parts) (b n : ℕ) → Ok tt ≡ admitted Memory (memory p) b n → (n ≡ p.width) × (b < length p.marks)
+pub admitted_at : (p : Parts) (b n : ℕ) → Ok tt ≡ admitted Memory (shown_of (memory p)) b n → (n ≡ p.width) × (b < length p.marks)
 admitted_at p b n e =
-    let t = let_in Memory (memory p) b n e in
-    (t.0, omega (arith, t.1, length-map-range_with_len (cell_of p) 0 (length p.marks)))
+    let t = let_in Memory (shown_of (memory p)) b n e in
+    (t.0, omega (arith, t.1, count_shown (memory p), length-map-range_with_len (cell_of p) 0 (length p.marks)))
 
 module _ (p : Parts) (s : Sound p) where
   abbrev cur : List ℕ
@@ -56,9 +57,10 @@ module _ (p : Parts) (s : Sound p) where
   abbrev w : ℕ
   w = p.width
 
-  pub read_at : (b n : ℕ) → b < length marks → n ≡ w → reading Memory (memory p) b n ≡ Ok (block_of w cur b)
+  pub read_at : (b n : ℕ) → b < length marks → n ≡ w → reading Memory (shown_of (memory p)) b n ≡ Ok (block_of w cur b)
   read_at b n h e =
-      reading_at Memory (memory p) b n e (simp length-map-range_with_len h)
+      reading_at Memory (shown_of (memory p)) b n e (omega (arith, count_shown (memory p), length-map-range_with_len (cell_of p) 0 (length p.marks), h))
+      ∙ ap (λ (f : ℕ → Content). held (f b)) (content_shown (memory p))
       ∙ ap (λ (c : Cell). held c.current) (get_or_table (cell_of p) (length marks) b no_cell h)
 
   module _ (b k v : ℕ) (ws : List ℕ) (h : b < length marks) (size : length ws ≡ w) (count : k ≡ w) (more : v ≡ min (get_or marks b 0 + 1) 2) where
@@ -125,12 +127,6 @@ module _ (p : Parts) (s : Sound p) where
 
 -- opening after a cut shows a cut of what was shown before
 module _ (p : Parts) (left : List ℕ) (s : Sound p) (l : Leaves p left) where
-  cut_to : (b k : ℕ) → b < length p.marks → get_or p.marks b 0 ≡ k → LeavesBlock k (block_of p.width p.current b) (block_of p.width p.persisted b) (block_of p.width left b) → CutTo p.width (cell_of p b) (words (block_of p.width left b))
-  cut_to b zero h e x = inl (e, ap words (x ∙ s.clean b h e))
-  cut_to b (suc zero) h e x = inr (inl (e, ⊎_elim (λ p. inl (ap words p)) (λ p. inr (ap words p)) x))
-  cut_to b (suc (suc k)) h e x =
-      inr (inr (omega arith, (block_length left p.width (length p.marks) (l.same_length ∙ s.shaped.per_len) b h, All-take _ p.width _ (All-drop _ (b * p.width) left l.fits))))
-
   pub cut_cleared : Cut (memory p) (cleared left (length p.marks) p.width)
   cut_cleared =
       let e : length (replicate {A = ℕ} (length p.marks) 0) ≡ length p.marks = length-replicate (length p.marks) 0 in
@@ -145,9 +141,10 @@ module _ (p : Parts) (left : List ℕ) (s : Sound p) (l : Leaves p left) where
             (record {
               mark = get_or-replicate {A = ℕ} (length p.marks) b 0 0 h₁;
               equal = refl;
-              from = cut_to b (get_or p.marks b 0) h₁ refl (l.blocks b h₁);
+              from = l.blocks b h₁;
             }));
         left = omega arith;
+        left_mark = omega arith;
       }
 
 pub opened_cut : (left : List ℕ) (n w : ℕ) → Outlasts left n w (cleared left n w)
@@ -238,3 +235,34 @@ module _ (cur per marks : List ℕ) (w n : ℕ) (p : Persisting cur per marks w 
 
   pub persist_marks : marks ≡ replicate n 0
   persist_marks = ext_get_or 0 marks (replicate n 0) (p.count ∙ sym (length-replicate n 0)) (λ k h. p.done k (omega (arith, h, p.count)) ∙ sym (get_or-replicate n k 0 0 (omega (arith, h, p.count))))
+
+-- what a memory means determines its slices
+module _ (p q : Parts) (s : Shaped p) (t : Shaped q) (e : memory p ≡ memory q) where
+  same_width : p.width ≡ q.width
+  same_width = ap (λ (m : Meaning). m.width) e
+
+  same_count : length p.marks ≡ length q.marks
+  same_count =
+      sym (length-map-range_with_len (cell_of p) 0 (length p.marks)) ∙ ap (λ (m : Meaning). length m.cells) e
+      ∙ length-map-range_with_len (cell_of q) 0 (length q.marks)
+
+  same_cell : (b : ℕ) → b < length p.marks → cell_of p b ≡ cell_of q b
+  same_cell b h =
+      sym (get_or_table (cell_of p) (length p.marks) b no_cell h) ∙ ap (λ (m : Meaning). get_or m.cells b no_cell) e
+      ∙ get_or_table (cell_of q) (length q.marks) b no_cell (omega (arith, h, same_count))
+
+  same_words : (xs ys : List ℕ) → length xs ≡ length p.marks * p.width → length ys ≡ length q.marks * q.width
+      → ((b : ℕ) → b < length p.marks → words (block_of p.width xs b) ≡ words (block_of q.width ys b)) → xs ≡ ys
+  same_words xs ys k l f =
+      by_blocks p.width (length p.marks) xs ys k (l ∙ ap (λ n. n * q.width) (sym same_count) ∙ ap (λ w. length p.marks * w) (sym same_width))
+      (λ b h. inner _ _ (f b h) ∙ ap (λ w. block_of w ys b) (sym same_width))
+    where
+      inner : (us vs : List ℕ) → words us ≡ words vs → us ≡ vs
+      inner us vs r = cc
+
+  pub same_parts : p ≡ q
+  same_parts =
+      let cur : p.current ≡ q.current = same_words p.current q.current s.cur_len t.cur_len (λ b h. ap (λ (c : Cell). c.current) (same_cell b h)) in
+      let per : p.persisted ≡ q.persisted = same_words p.persisted q.persisted s.per_len t.per_len (λ b h. ap (λ (c : Cell). c.persisted) (same_cell b h)) in
+      let marks : p.marks ≡ q.marks = ext_get_or 0 p.marks q.marks same_count (λ b h. ap (λ (c : Cell). c.mark) (same_cell b h)) in
+      λ i. record { current = cur i; persisted = per i; marks = marks i; width = same_width i }

@@ -1,7 +1,7 @@
 -- What the device in memory means, what it keeps, and what a cut of the power may leave of it.
-use Rattle.std.specs.Prelude.{◌≡◌, ℕ, zero, suc, ◌*◌, ◌^◌, ◌<◌, ◌≤◌, ◌⊎◌, List, map, length, take, drop, replicate, slice_index}
+use Rattle.std.specs.Prelude.{◌≡◌, ℕ, ◌*◌, ◌^◌, ◌<◌, ◌≤◌, List, map, length, take, drop, replicate, slice_index}
 use Rattle.std.specs.List.{range_with_len, AllByRecursion}
-use Rattle.device.specs.Meaning.{Meaning, Cell, Limits, words, own, endless, Cut}
+use Rattle.device.specs.Meaning.{Meaning, Cell, Limits, words, own, endless, Cut, CutTo}
 use Rattle.device.specs.declared.Layer.TheVariants.{Memory}
 use Rattle.memory.specs.declared.Slices.{Slices}
 
@@ -49,17 +49,11 @@ pub record Sound (p : Parts) : Type 0 where
 abbrev pub cleared : List ℕ → ℕ → ℕ → Meaning
 cleared per n w = memory (parts per per (replicate n 0) w)
 
--- what a cut may leave of a block, by its mark: its persisted words; those or its current words, whole; any words
-abbrev pub LeavesBlock : ℕ → List ℕ → List ℕ → List ℕ → Type 0
-LeavesBlock zero cur per xs = xs ≡ per
-LeavesBlock (suc zero) cur per xs = (xs ≡ per) ⊎ (xs ≡ cur)
-LeavesBlock (suc (suc m)) cur per xs = Unit
-
--- what a cut may leave in the persisted slice of a memory
+-- what a cut may leave in the persisted slice of a memory: as many words, and in each block what the rule leaves of it
 pub record Leaves (p : Parts) (left : List ℕ) : Type 0 where
   pub same_length : length left ≡ length p.persisted
   pub fits : AllByRecursion (λ x. x < 2 ^ 32) left
-  pub blocks : (b : ℕ) → b < length p.marks → LeavesBlock (slice_index p.marks b) (block_of p.width p.current b) (block_of p.width p.persisted b) (block_of p.width left b)
+  pub blocks : (b : ℕ) → b < length p.marks → CutTo p.width (slice_index p.marks b) (cell_of p b) (words (block_of p.width left b))
 
 -- m is a cut of what every memory of n blocks of w words showed of which a cut may have left these persisted words
 abbrev pub Outlasts : List ℕ → ℕ → ℕ → Meaning → Type 0

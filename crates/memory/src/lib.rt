@@ -5,12 +5,15 @@
 ghost use Rattle.std.specs.Prelude.{◌≡◌, ℕ, ◌+◌, ◌<◌, ◌≤◌, length, replicate, slice_index, IfOk, MatchBool, MatchResult};
 ghost use Rattle.std.specs.List.{AllByRecursion};
 ghost use Rattle.device.specs.declared.Layer.{Layer};
-ghost use Rattle.device.specs.Meaning.{written};
+ghost use Rattle.device.specs.Meaning.{Meaning, written, shown_of};
+ghost use Rattle.device.specs.Cuts.{replay, replay_goes_on};
+ghost use Rattle.device.specs.Showing.{readable};
+ghost use Rattle.std.proofs.Common.{refl, sym};
 ghost use Rattle.std.proofs.Props.{props};
 ghost use Rattle.memory.specs.Fit.{fit};
-ghost use Rattle.memory.specs.Memory.{memory, parts, parts_of, Sound, Shaped, block_of, cleared, Outlasts};
+ghost use Rattle.memory.specs.Memory.{Parts, memory, parts, parts_of, Sound, Shaped, block_of, cleared, Outlasts};
 
-use device::{Device, DeviceFault, Layer, LayerMark, Unshaped, is_shape};
+use device::{Device, DeviceFault, Layer, LayerMark, Reader, Unshaped, is_shape};
 
 #[derive(Drop)]
 pub struct Memory<'a> {
@@ -163,12 +166,14 @@ impl<'a> Memory<'a> {
     }
 }
 
-impl<'a> Device for Memory<'a> {
+impl<'a> Reader for Memory<'a> {
     ghost code = { Layer.Memory };
 
-    ghost meaning = { λ s. memory (parts_of s.slices s.width) };
+    ghost shown = { λ s. shown_of (memory (parts_of s.slices s.width)) };
 
-    ghost fit = { λ s. fit (parts_of s.slices s.width) s.sound };
+    ghost Rest = { Meaning };
+
+    ghost rest = { λ s. memory (parts_of s.slices s.width) };
 
     fn layer(&self) -> Layer {
         Layer::Memory
@@ -182,14 +187,23 @@ impl<'a> Device for Memory<'a> {
         self.width as u32
     }
 
-    fn left(&self) -> (u32, LayerMark) {
-        (u32::MAX, Layer::Memory.own())
-    }
-
     fn read(&mut self, block: u32, out: &mut [u32]) -> Result<(), DeviceFault> {
         self.admit(block, out.len())?;
         out.copy_from_slice(self.words(block as usize));
         Ok(())
+    }
+
+    ghost readable = { λ s. readable (memory (parts_of s.slices s.width)) (fit (parts_of s.slices s.width) s.sound) };
+}
+
+impl<'a> Device for Memory<'a> {
+    ghost meaning = { λ s. memory (parts_of s.slices s.width) };
+
+    // Nothing lies below, and the meaning shows every word of the slices and every mark.
+    ghost led = { λ os x y. memory (parts_of y.slices y.width) ≡ replay os (memory (parts_of x.slices x.width)) };
+
+    fn left(&self) -> (u32, LayerMark) {
+        (u32::MAX, Layer::Memory.own())
     }
 
     fn write(&mut self, block: u32, words: &[u32]) -> Result<(), DeviceFault> {
@@ -201,7 +215,24 @@ impl<'a> Device for Memory<'a> {
     fn flush(&mut self) {
         self.slices.persist(self.width);
     }
+
+    ghost shows = { λ s. refl };
+
+    ghost kept = { λ x y shown rest. rest };
+
+    ghost fit = { λ s. fit (parts_of s.slices s.width) s.sound };
+
+    ghost quiet = { λ x y shown rest. sym rest };
+
+    ghost goes_on = { λ os ps x y z. replay_goes_on os ps (memory (parts_of x.slices x.width)) (memory (parts_of y.slices y.width)) (memory (parts_of z.slices z.width)) };
+
+    ghost replays = { λ os x y led. led };
 }
+
+// What a memory means hides nothing of it: it determines all three slices, word by word.
+pub fn slices_are_shown()
+    ensures { (p q : Parts) → Shaped p → Shaped q → memory p ≡ memory q → p ≡ q }
+{}
 
 #[cfg(test)]
 mod tests {

@@ -2,7 +2,7 @@
 use Rattle.std.proofs.Common.{◌≡◌, ℕ, zero, suc, ◌%◌, Bool, true, false, cond, not, ◌||◌, T, ltb, ◌⊎◌, List, [], ◌∷◌, map, get_or, take, set, ℤ, pos, negsuc, Some, None, Option, sym, refl, ap, ◌∙◌, subst, ap₂, inl, inr, eqb→eq, arith}
 use Rattle.std.specs.Option.{option_or}
 use Rattle.device.specs.Meaning.{Meaning, spent}
-use Rattle.device.specs.Cuts.{keeps_old, Choice, Choice.old, Choice.new, Choice.other, Cutting, replay, cut}
+use Rattle.device.specs.Cuts.{keeps_persisted, Choice, Choice.persisted, Choice.current, Choice.other, Cutting, replay, cut}
 use Rattle.page.specs.Slot.{Root}
 use Rattle.table.specs.Rows.{off_angle, payload_of}
 use Rattle.table.specs.Angles.{angle_at}
@@ -341,16 +341,16 @@ module _ (V : Type 0) (join : ℕ → Map → V) where
       refusal_reply M (put n s a) ∙ ap (λ S. refusal S (put n s a)) R.shapes ∙ put_refusals (shape_of N) n s a b l.0 l.1 ∙ sym (refusal_reply N (put n s b))
 
   -- the cuts
-  rel_landed : (k k₂ : Choice) → keeps_old k ≡ keeps_old k₂ → (μ : Marks) (M N : Model) → Rel μ M N → (ν : Marks) × ((ν ≡ μ) ⊎ (ν ≡ finished_marks μ)) × Rel ν (landed k M) (landed k₂ N)
-  rel_landed old old e μ M N R = (μ, inl refl, R)
-  rel_landed new new e μ M N R = (finished_marks μ, inr refl, rel_finished μ M N R)
-  rel_landed new (other z) e μ M N R = (finished_marks μ, inr refl, rel_finished μ M N R)
-  rel_landed (other y) new e μ M N R = (finished_marks μ, inr refl, rel_finished μ M N R)
+  rel_landed : (k k₂ : Choice) → keeps_persisted k ≡ keeps_persisted k₂ → (μ : Marks) (M N : Model) → Rel μ M N → (ν : Marks) × ((ν ≡ μ) ⊎ (ν ≡ finished_marks μ)) × Rel ν (landed k M) (landed k₂ N)
+  rel_landed persisted persisted e μ M N R = (μ, inl refl, R)
+  rel_landed current current e μ M N R = (finished_marks μ, inr refl, rel_finished μ M N R)
+  rel_landed current (other z) e μ M N R = (finished_marks μ, inr refl, rel_finished μ M N R)
+  rel_landed (other y) current e μ M N R = (finished_marks μ, inr refl, rel_finished μ M N R)
   rel_landed (other y) (other z) e μ M N R = (finished_marks μ, inr refl, rel_finished μ M N R)
-  rel_landed old new e μ M N R = absurd (let z : ◌≡◌ {A = Bool} true false = e in cc)
-  rel_landed old (other z) e μ M N R = absurd (let z : ◌≡◌ {A = Bool} true false = e in cc)
-  rel_landed new old e μ M N R = absurd (let z : ◌≡◌ {A = Bool} false true = e in cc)
-  rel_landed (other y) old e μ M N R = absurd (let z : ◌≡◌ {A = Bool} false true = e in cc)
+  rel_landed persisted current e μ M N R = absurd (let z : ◌≡◌ {A = Bool} true false = e in cc)
+  rel_landed persisted (other z) e μ M N R = absurd (let z : ◌≡◌ {A = Bool} true false = e in cc)
+  rel_landed current persisted e μ M N R = absurd (let z : ◌≡◌ {A = Bool} false true = e in cc)
+  rel_landed (other y) persisted e μ M N R = absurd (let z : ◌≡◌ {A = Bool} false true = e in cc)
 
   pub rel_broken : (x : Both) (k : ℕ) (κ κ₂ : Cutting) → SameCut κ κ₂ → (μ : Marks) (M N : Model) → Rel μ M N → (ν : Marks) × Remain x μ ν × Rel ν (broken M (one x) k κ) (broken N (two x) k κ₂)
   rel_broken (alike (ask q)) k κ κ₂ e μ M N R = (μ, refl, R)

@@ -1,7 +1,7 @@
 -- Two runs with the same cuts, alike but for angles that are put, and which clones an angle may have touched.
 use Rattle.std.specs.Prelude.{◌≡◌, ℕ, suc, ◌<◌, Bool, false, not, ◌||◌, ◌⊎◌, List, [], ◌∷◌, map, take, replicate, ℤ, pos, negsuc, Some, None, Ok, Option, ◌==◌, slice_index_or, slice_set}
 use Rattle.device.specs.Meaning.{Meaning}
-use Rattle.device.specs.Cuts.{Op, Cutting, keeps_old, cut, replay}
+use Rattle.device.specs.Cuts.{Op, Cutting, keeps_persisted, cut, replay}
 use Rattle.page.specs.Slot.{Table}
 use Rattle.table.specs.Rows.{off_angle}
 use Rattle.model.specs.declared.refusal.Refusal.{Refusal}
@@ -31,7 +31,7 @@ Legal (puts n s a b) = (off_angle a ≡ false) × (off_angle b ≡ false)
 -- One cut in both runs: of each of the two slots both keep the old content or neither does, and the writes left are the same.
 -- Of all other blocks the cuts may differ.
 pub record SameCut (κ κ₂ : Cutting) : Type 0 where
-  pub slots : (b : ℕ) → b < 2 → keeps_old (κ.choice b) ≡ keeps_old (κ₂.choice b)
+  pub slots : (b : ℕ) → b < 2 → keeps_persisted (κ.choice b) ≡ keeps_persisted (κ₂.choice b)
   pub left : κ.left ≡ κ₂.left
   pub left_mark : κ.left_mark ≡ κ₂.left_mark
 

@@ -3,46 +3,46 @@ use Rattle.std.proofs.Common.{◌≡◌, ℕ, zero, suc, ◌≤◌, max, ◌&&�
 use Rattle.device.specs.declared.LayerMark.{LayerMark}
 use Rattle.device.specs.Meaning.{Content, words, damaged, Cell}
 use Rattle.device.specs.Mapped.{mapped_cell}
-use Rattle.device.specs.Cuts.{Choice, Choice.old, Choice.new, Choice.other, keeps_old, remains}
+use Rattle.device.specs.Cuts.{Choice, Choice.persisted, Choice.current, Choice.other, keeps_persisted, remains}
 use Rattle.mirror.specs.Mirrored.{One, pick, mirrored_cell}
 use Rattle.pile_law.specs.TwoPiles.{DamageCounts}
 
 -- x is left of the cell by a choice that keeps the old content or does not
 abbrev pub Kept : Bool → Cell → Content → Type 0
-Kept β c x = (k : Choice) × (keeps_old k ≡ β) × (x ≡ remains c.mark k c)
+Kept β c x = (k : Choice) × (keeps_persisted k ≡ β) × (x ≡ remains c.mark k c)
 
 -- a layer that shows each content by a function of it
 module _ (f : Content → Content) where
   abbrev map_choice : Choice → Choice
-  map_choice old = old
-  map_choice new = new
+  map_choice persisted = persisted
+  map_choice current = current
   map_choice (other x) = other (f x)
 
-  keeps_map : (k : Choice) → keeps_old (map_choice k) ≡ keeps_old k
-  keeps_map old = refl
-  keeps_map new = refl
+  keeps_map : (k : Choice) → keeps_persisted (map_choice k) ≡ keeps_persisted k
+  keeps_map persisted = refl
+  keeps_map current = refl
   keeps_map (other x) = refl
 
   remains_map : (n : ℕ) (k : Choice) (c : Cell) → f (remains n k c) ≡ remains n (map_choice k) (mapped_cell f c)
   remains_map zero k c = refl
-  remains_map (suc zero) old c = refl
-  remains_map (suc zero) new c = refl
+  remains_map (suc zero) persisted c = refl
+  remains_map (suc zero) current c = refl
   remains_map (suc zero) (other x) c = refl
-  remains_map (suc (suc n)) old c = refl
-  remains_map (suc (suc n)) new c = refl
+  remains_map (suc (suc n)) persisted c = refl
+  remains_map (suc (suc n)) current c = refl
   remains_map (suc (suc n)) (other x) c = refl
 
   pub kept_map : (β : Bool) (c : Cell) (x : Content) → Kept β c x → Kept β (mapped_cell f c) (f x)
   kept_map β c x h = (map_choice h.0, keeps_map h.0 ∙ h.1, ap f h.2 ∙ remains_map c.mark h.0 c)
 
 abbrev chosen : Choice → Content → Content → Content
-chosen old p u = p
-chosen new p u = u
+chosen persisted p u = p
+chosen current p u = u
 chosen (other x) p u = u
 
 one_chosen : (k : Choice) (c : Cell) → remains 1 k c ≡ chosen k c.persisted c.current
-one_chosen old c = refl
-one_chosen new c = refl
+one_chosen persisted c = refl
+one_chosen current c = refl
 one_chosen (other x) c = refl
 
 pub at_two : (n : ℕ) (c : Cell) (x : Content) → 2 ≤ n → remains n (other x) c ≡ x
@@ -57,23 +57,23 @@ is_words (damaged j) = false
 
 -- a mirror's choice: a block written once is old if the first side kept it and shows it, or both kept it
 abbrev picked : Content → Choice → Choice → Choice
-picked (words a) old l = old
-picked (words a) new l = new
-picked (words a) (other x) l = new
-picked (damaged j) old old = old
-picked (damaged j) old new = new
-picked (damaged j) old (other y) = new
-picked (damaged j) new l = new
-picked (damaged j) (other x) l = new
+picked (words a) persisted l = persisted
+picked (words a) current l = current
+picked (words a) (other x) l = current
+picked (damaged j) persisted persisted = persisted
+picked (damaged j) persisted current = current
+picked (damaged j) persisted (other y) = current
+picked (damaged j) current l = current
+picked (damaged j) (other x) l = current
 
-keeps_picked : (p : Content) (k l : Choice) → keeps_old (picked p k l) ≡ (keeps_old k && (is_words p || keeps_old l))
-keeps_picked (words a) old l = refl
-keeps_picked (words a) new l = refl
+keeps_picked : (p : Content) (k l : Choice) → keeps_persisted (picked p k l) ≡ (keeps_persisted k && (is_words p || keeps_persisted l))
+keeps_picked (words a) persisted l = refl
+keeps_picked (words a) current l = refl
 keeps_picked (words a) (other x) l = refl
-keeps_picked (damaged j) old old = refl
-keeps_picked (damaged j) old new = refl
-keeps_picked (damaged j) old (other y) = refl
-keeps_picked (damaged j) new l = refl
+keeps_picked (damaged j) persisted persisted = refl
+keeps_picked (damaged j) persisted current = refl
+keeps_picked (damaged j) persisted (other y) = refl
+keeps_picked (damaged j) current l = refl
 keeps_picked (damaged j) (other x) l = refl
 
 module _ (q u v : Content) (ws : List ℕ) (e : u ≡ words ws) (f : v ≡ words ws) where
@@ -84,13 +84,13 @@ module _ (q u v : Content) (ws : List ℕ) (e : u ≡ words ws) (f : v ≡ words
   back j = ap (pick (damaged j)) f ∙ sym (ap (λ t. pick t v) e)
 
   once : (p : Content) (k l : Choice) → pick (chosen k p u) (chosen l q v) ≡ chosen (picked p k l) (pick p q) (pick u v)
-  once (words a) old l = refl
-  once (words a) new l = front (chosen l q v)
+  once (words a) persisted l = refl
+  once (words a) current l = front (chosen l q v)
   once (words a) (other x) l = front (chosen l q v)
-  once (damaged j) old old = refl
-  once (damaged j) old new = back j
-  once (damaged j) old (other y) = back j
-  once (damaged j) new l = front (chosen l q v)
+  once (damaged j) persisted persisted = refl
+  once (damaged j) persisted current = back j
+  once (damaged j) persisted (other y) = back j
+  once (damaged j) current l = front (chosen l q v)
   once (damaged j) (other x) l = front (chosen l q v)
 
 abbrev pub rest_bit : ℕ → Bool → Bool → Bool → Bool
@@ -122,12 +122,12 @@ module _ (c d : Cell) (same : c.mark ≡ d.mark) where
       go (suc (suc n)) e = (other (pick x y), refl, sym (at_two (max c.mark d.mark) (mirrored_cell c d) (pick x y) (omega arith)))
 
 pub damage_counts : DamageCounts
-damage_counts old old e p q = let z : ◌≡◌ {A = Content} (words (2 ∷ [])) (words (1 ∷ [])) = p in cc
-damage_counts old new e p q = let z : ◌≡◌ {A = Bool} true false = e in cc
-damage_counts old (other x) e p q = let z : ◌≡◌ {A = Bool} true false = e in cc
-damage_counts new old e p q = let z : ◌≡◌ {A = Bool} false true = e in cc
-damage_counts (other x) old e p q = let z : ◌≡◌ {A = Bool} false true = e in cc
-damage_counts new new e p q = let z : ◌≡◌ {A = Content} (words (1 ∷ [])) (words (2 ∷ [])) = q in cc
-damage_counts new (other x) e p q = let z : ◌≡◌ {A = Content} (words (1 ∷ [])) (words (2 ∷ [])) = q in cc
-damage_counts (other x) new e p q = let z : ◌≡◌ {A = Content} (words (1 ∷ [])) (words (2 ∷ [])) = q in cc
+damage_counts persisted persisted e p q = let z : ◌≡◌ {A = Content} (words (2 ∷ [])) (words (1 ∷ [])) = p in cc
+damage_counts persisted current e p q = let z : ◌≡◌ {A = Bool} true false = e in cc
+damage_counts persisted (other x) e p q = let z : ◌≡◌ {A = Bool} true false = e in cc
+damage_counts current persisted e p q = let z : ◌≡◌ {A = Bool} false true = e in cc
+damage_counts (other x) persisted e p q = let z : ◌≡◌ {A = Bool} false true = e in cc
+damage_counts current current e p q = let z : ◌≡◌ {A = Content} (words (1 ∷ [])) (words (2 ∷ [])) = q in cc
+damage_counts current (other x) e p q = let z : ◌≡◌ {A = Content} (words (1 ∷ [])) (words (2 ∷ [])) = q in cc
+damage_counts (other x) current e p q = let z : ◌≡◌ {A = Content} (words (1 ∷ [])) (words (2 ∷ [])) = q in cc
 damage_counts (other x) (other y) e p q = let z : ◌≡◌ {A = Content} (words (1 ∷ [])) (words (2 ∷ [])) = q in cc

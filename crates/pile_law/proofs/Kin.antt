@@ -2,7 +2,7 @@
 use Rattle.std.proofs.Common.{◌≡◌, ℕ, zero, suc, ◌+◌, ◌-◌, ◌<◌, ◌≤◌, max, min, true, false, List, [], ◌∷◌, length, sym, refl, ap, ◌∙◌, subst, subst₂, ap₂, inl, inr, ⊎_elim, arith}
 use Rattle.std.proofs.lemmas.List.{length-map, length-append}
 use Rattle.device.specs.Meaning.{Meaning, Content, words, damaged, Cell, flushed, flushed_cell, written, written_cell, blocks_of, cell_at}
-use Rattle.device.specs.Cuts.{Op, Op.write, Op.flush, Choice, Choice.old, Choice.new, Choice.other, Cutting, apply, remains, cut}
+use Rattle.device.specs.Cuts.{Op, Op.write, Op.flush, Choice, Choice.persisted, Choice.current, Choice.other, Cutting, apply, remains, cut}
 use Rattle.device.proofs.Choices.{cut_at, cut_blocks, flush_at, write_at, write_off, blocks_apply}
 use Rattle.check_layer.specs.Checked.{checked, checked_cell, checked_content, check_of, with_check}
 use Rattle.check_layer.proofs.Follows as checks
@@ -201,30 +201,30 @@ kin_flushed b n p q x = absurd x
 
 -- after a cut by choices of one kind, and of kin contents
 abbrev pub KinChoice : ℕ → ℕ → Choice → Choice → Type 0
-KinChoice w n old old = Unit
-KinChoice w n new new = Unit
+KinChoice w n persisted persisted = Unit
+KinChoice w n current current = Unit
 KinChoice w n (other x) (other y) = Kin w n x y
 KinChoice w n k k₂ = ⊥
 
 pub same_choice : (w n : ℕ) (k : Choice) → KinChoice w n k k
-same_choice w n old = tt
-same_choice w n new = tt
+same_choice w n persisted = tt
+same_choice w n current = tt
 same_choice w n (other x) = inl refl
 
 pub kin_remains : (w n i : ℕ) (k k₂ : Choice) (c d : Cell) → KinChoice w n k k₂ → Kin w n c.persisted d.persisted → Kin w n c.current d.current → Kin w n (remains i k c) (remains i k₂ d)
 kin_remains w n zero k k₂ c d e p q = q
-kin_remains w n (suc zero) old old c d e p q = p
-kin_remains w n (suc zero) new new c d e p q = q
+kin_remains w n (suc zero) persisted persisted c d e p q = p
+kin_remains w n (suc zero) current current c d e p q = q
 kin_remains w n (suc zero) (other x) (other y) c d e p q = q
-kin_remains w n (suc (suc i)) old old c d e p q = p
-kin_remains w n (suc (suc i)) new new c d e p q = q
+kin_remains w n (suc (suc i)) persisted persisted c d e p q = p
+kin_remains w n (suc (suc i)) current current c d e p q = q
 kin_remains w n (suc (suc i)) (other x) (other y) c d e p q = e
-kin_remains w n (suc i) old new c d e p q = absurd e
-kin_remains w n (suc i) old (other y) c d e p q = absurd e
-kin_remains w n (suc i) new old c d e p q = absurd e
-kin_remains w n (suc i) new (other y) c d e p q = absurd e
-kin_remains w n (suc i) (other x) old c d e p q = absurd e
-kin_remains w n (suc i) (other x) new c d e p q = absurd e
+kin_remains w n (suc i) persisted current c d e p q = absurd e
+kin_remains w n (suc i) persisted (other y) c d e p q = absurd e
+kin_remains w n (suc i) current persisted c d e p q = absurd e
+kin_remains w n (suc i) current (other y) c d e p q = absurd e
+kin_remains w n (suc i) (other x) persisted c d e p q = absurd e
+kin_remains w n (suc i) (other x) current c d e p q = absurd e
 
 pub record KinCut (w n b : ℕ) (κ κ₂ : Cutting) : Type 0 where
   pub choice : KinChoice w n (κ.choice b) (κ₂.choice b)

@@ -4,7 +4,7 @@ use Rattle.std.proofs.ByRecursion.{All-get_or}
 use Rattle.std.proofs.lemmas.Bool.{cases_eq, eq-eqb, ne_eqb}
 use Rattle.std.proofs.lemmas.List.{same_lists, get_or_default}
 use Rattle.device.specs.Meaning.{Meaning, Content, Cell, Lawful, LawfulCell, flushed, written, written_cell, no_cell, blocks_of, cell_at}
-use Rattle.device.specs.Cuts.{Op.write, Op.flush, Choice, Choice.old, Choice.new, Choice.other, Cutting, remains, cut}
+use Rattle.device.specs.Cuts.{Op.write, Op.flush, Choice, Choice.persisted, Choice.current, Choice.other, Cutting, remains, cut}
 use Rattle.device.proofs.Choices.{cut_at, cut_blocks, flush_at, write_at, write_off, blocks_apply}
 use Rattle.check_layer.specs.Checked.{with_check}
 use Rattle.piles.specs.Piles.{Pile, Pile.bottom, Pile.check, Pile.quota, Pile.mirror, shows, Built, PerBottom, on, if_done, part, whole, Accepts}
@@ -31,7 +31,7 @@ same_cut m n κ κ' ew eb el em h = λ i. record { width = ew i; cells = cells i
 
 -- what is left of a block that was not written yet: its old content, or where it had a mark already, some other
 abbrev stays : ℕ → Content → Choice
-stays zero x = old
+stays zero x = persisted
 stays (suc n) x = other x
 
 abbrev unbegun : ℕ → Meaning → Cutting → Cutting
@@ -42,7 +42,7 @@ unbegun b m κ = record {
 }
 
 abbrev all_new : Cutting → Cutting
-all_new κ = record { choice = λ i. new; left = κ.left; left_mark = κ.left_mark }
+all_new κ = record { choice = λ i. current; left = κ.left; left_mark = κ.left_mark }
 
 unbegun_here : (b : ℕ) (m : Meaning) (κ : Cutting) → (unbegun b m κ).choice b ≡ stays (cell_at m b).mark (remains (cell_at m b).mark (κ.choice b) (cell_at m b))
 unbegun_here b m κ = ap (λ x. cond x (stays (cell_at m b).mark (remains (cell_at m b).mark (κ.choice b) (cell_at m b))) (κ.choice b)) (eq-eqb b b refl)
@@ -58,8 +58,8 @@ stays_left w ws c k l = go c.mark refl
     go zero e = sym (l.clean e)
     go (suc n) e = sym (at_two (min (suc n + 1) 2) (written_cell ws c) (remains (suc n) k c) (omega arith))
 
-cut_before_write : (b : ℕ) (ws : List ℕ) (κ : Cutting) (m : Meaning) → Lawful m → b < blocks_of m → cut κ m ≡ cut (unbegun b m κ) (written m b ws)
-cut_before_write b ws κ m l h =
+cut_unflushed_write : (b : ℕ) (ws : List ℕ) (κ : Cutting) (m : Meaning) → Lawful m → b < blocks_of m → cut κ m ≡ cut (unbegun b m κ) (written m b ws)
+cut_unflushed_write b ws κ m l h =
     let k = unbegun b m κ in
     let m' = written m b ws in
     same_cut m m' κ k refl (sym (blocks_apply (write b ws) m)) refl refl (λ i i<.
@@ -71,7 +71,7 @@ cut_before_write b ws κ m l h =
     (λ (ne : i ≡ b → ⊥). sym (ap₂ (λ (c : Cell) x. remains c.mark x c) (write_off m b i ws ne) (unbegun_off b i m κ ne)))
     (cases_eq i b))
 
-remains_new : (n : ℕ) (c : Cell) → remains n new c ≡ c.current
+remains_new : (n : ℕ) (c : Cell) → remains n current c ≡ c.current
 remains_new zero c = refl
 remains_new (suc zero) c = refl
 remains_new (suc (suc n)) c = refl
@@ -104,7 +104,7 @@ cut_in_write b ws d (bottom m) K u a = ap bottom (go (d []))
   where
     go : (x : Bool) → cut (K []) (if_done x (write b ws) m) ≡ cut (cond x (K []) (unbegun b m (K []))) (written m b ws)
     go true = refl
-    go false = cut_before_write b ws (K []) m u a.0
+    go false = cut_unflushed_write b ws (K []) m u a.0
 cut_in_write b ws d (check p) K u a = ap check (cut_in_write b (with_check ws) d p K u.0 (check_accepts (shows p) u.1 (write b ws) a))
 cut_in_write b ws d (quota n p) K u a = ap (quota n) (cut_in_write b ws d p K u.0 (quota_accepts n (shows p) u.1 (write b ws) a))
 cut_in_write b ws d (mirror p q) K u a =

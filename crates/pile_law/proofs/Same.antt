@@ -3,7 +3,7 @@ use Rattle.std.proofs.Common.{◌≡◌, ℕ, zero, suc, ◌-◌, ◌<◌, ◌�
 use Rattle.std.proofs.lemmas.List.{length-map}
 use Rattle.device.specs.Meaning.{Meaning, Content, Cell, Lawful, Cut, raised, flushed, flushed_cell, blocks_of, cell_at, current_at}
 use Rattle.device.specs.Mapped.{mapped_cell}
-use Rattle.device.specs.Cuts.{Op, Op.write, Op.flush, Choice, Choice.old, Choice.new, Choice.other, Cutting, Fits, keeps_old, apply, remains, cut}
+use Rattle.device.specs.Cuts.{Op, Op.write, Op.flush, Choice, Choice.persisted, Choice.current, Choice.other, Cutting, Fits, keeps_persisted, apply, remains, cut}
 use Rattle.device.proofs.Choices.{cuts_agree, cut_at, flush_at, blocks_apply}
 use Rattle.check_layer.specs.Checked.{checked, checked_cell, checked_content}
 use Rattle.quota.specs.Limited as quotas
@@ -73,23 +73,23 @@ module _ (b n : ℕ) (m m₂ r r₂ : Meaning) (h : b < blocks_of m) (a : Alike 
       )
 
 -- choices of one kind keep the old content in both runs or in neither
-kin_keeps : (w n : ℕ) (k k₂ : Choice) → KinChoice w n k k₂ → keeps_old k₂ ≡ keeps_old k
-kin_keeps w n old old e = refl
-kin_keeps w n new new e = refl
+kin_keeps : (w n : ℕ) (k k₂ : Choice) → KinChoice w n k k₂ → keeps_persisted k₂ ≡ keeps_persisted k
+kin_keeps w n persisted persisted e = refl
+kin_keeps w n current current e = refl
 kin_keeps w n (other x) (other y) e = refl
-kin_keeps w n old new e = absurd e
-kin_keeps w n old (other y) e = absurd e
-kin_keeps w n new old e = absurd e
-kin_keeps w n new (other y) e = absurd e
-kin_keeps w n (other x) old e = absurd e
-kin_keeps w n (other x) new e = absurd e
+kin_keeps w n persisted current e = absurd e
+kin_keeps w n persisted (other y) e = absurd e
+kin_keeps w n current persisted e = absurd e
+kin_keeps w n current (other y) e = absurd e
+kin_keeps w n (other x) persisted e = absurd e
+kin_keeps w n (other x) current e = absurd e
 
 -- the choice at the top, layer by layer
 joint : (b n : ℕ) (p p₂ : Pile) (K K₂ : PerBottom Cutting) → Built p → Built p₂ → b < blocks_of (shows p) → KinPile b n p p₂
     → Cuts p (cut_bottoms K p) → Cuts p₂ (cut_bottoms K₂ p₂) → KinCuts b n K K₂ p
     → Both (cell_at (shows p) b) (cell_at (shows p₂) b) (current_at (shows (left_by K p)) b) (current_at (shows (left_by K₂ p₂)) b)
 joint b n (bottom m) (bottom m₂) K K₂ u v h x c c₂ e = (
-  keeps_old ((K []).choice b),
+  keeps_persisted ((K []).choice b),
   ((K []).choice b, refl, ap (λ (c : Cell). c.current) (cut_at (K []) m b)),
   ((K₂ []).choice b, kin_keeps m.width n ((K []).choice b) ((K₂ []).choice b) e.choice, ap (λ (c : Cell). c.current) (cut_at (K₂ []) m₂ b)),
 )
@@ -207,7 +207,7 @@ module _ (m n : Meaning) (κ : Cutting) (e : n ≡ cut κ m) (β γ : Bool) (a :
       at (suc zero) = sym c.2 ∙ left_of 1
       at (suc (suc b)) = refl
 
-slots_same : (f g : ℕ → Choice) → keeps_old (f 0) ≡ keeps_old (g 0) → keeps_old (f 1) ≡ keeps_old (g 1) → (b : ℕ) → b < 2 → keeps_old (f b) ≡ keeps_old (g b)
+slots_same : (f g : ℕ → Choice) → keeps_persisted (f 0) ≡ keeps_persisted (g 0) → keeps_persisted (f 1) ≡ keeps_persisted (g 1) → (b : ℕ) → b < 2 → keeps_persisted (f b) ≡ keeps_persisted (g b)
 slots_same f g p q zero h = p
 slots_same f g p q (suc zero) h = q
 slots_same f g p q (suc (suc b)) h = absurd (omega arith)

@@ -2,7 +2,7 @@
 use Rattle.std.specs.Prelude.{◌≡◌, ℕ, zero, suc, ◌<◌, ◌≤◌, ◌⊎◌, Bool, true, false, List, [], ◌∷◌, length}
 use Rattle.device.specs.declared.Layer.TheVariants.{Memory}
 use Rattle.device.specs.Meaning.{Meaning, Content, Content.words, Content.damaged, own, Cell, cell_at, blocks_of}
-use Rattle.device.specs.Cuts.{Op, Op.write, Op.flush, Choice, Cutting, keeps_old, remains, cut, Fits}
+use Rattle.device.specs.Cuts.{Op, Op.write, Op.flush, Choice, Cutting, keeps_persisted, remains, cut, Fits}
 use Rattle.check_layer.specs.Checked.{with_check}
 use Rattle.mirror.specs.Mirrored.{pick, mirrored_cell}
 use Rattle.model.specs.TwoRuns.{SameCut}
@@ -103,7 +103,7 @@ abbrev pub DamageCounts : Type 0
 DamageCounts =
     let spoilt = damaged (own Memory) in
     let kept = words (1 ∷ []) in
-    (k k₂ : Choice) → keeps_old k ≡ keeps_old k₂
+    (k k₂ : Choice) → keeps_persisted k ≡ keeps_persisted k₂
     → pick spoilt (words (2 ∷ [])) ≡ remains 1 k (mirrored_cell (one_write spoilt) (one_write kept))
     → pick kept (words (2 ∷ [])) ≡ remains 1 k₂ (mirrored_cell (one_write kept) (one_write kept))
     → ⊥

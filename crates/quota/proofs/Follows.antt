@@ -3,6 +3,7 @@ use Rattle.std.proofs.Common.{◌≡◌, ℕ, zero, suc, ◌<◌, ◌≤◌, Lis
 use Rattle.std.proofs.lemmas.List.{map-set, get_or-map, get_or-take, take-map, length-take-le}
 use Rattle.device.specs.declared.DeviceFault.{DeviceFault}
 use Rattle.device.specs.Meaning.{Meaning, Cell, raised, flushed, flushed_cell, written, written_cell, no_cell, spent, blocks_of, passed, after_write, cell_at}
+use Rattle.device.specs.Cuts.{written_ops}
 use Rattle.device.proofs.Mapped.{mapped_flush}
 use Rattle.quota.specs.Limited.{limited, raised_cell, raised_content}
 
@@ -28,7 +29,7 @@ module _ (n : ℕ) (m : Meaning) (few : n ≤ blocks_of m) (b : ℕ) (h : b < n)
       get_or-map raised_cell (take n m.cells) b no_cell no_cell (omega (arith, length-take-le n m.cells few))
       ∙ ap raised_cell (get_or-take n m.cells b no_cell h)
 
-  limited_written : (ws : List ℕ) → limited n (written m b ws) ≡ written (limited n m) b ws
+  pub limited_written : (ws : List ℕ) → limited n (written m b ws) ≡ written (limited n m) b ws
   limited_written ws =
       ap with_cells
       (ap (map raised_cell) (take_set n m.cells b (written_cell ws (cell_at m b)))
@@ -41,3 +42,7 @@ module _ (n : ℕ) (m : Meaning) (few : n ≤ blocks_of m) (b : ℕ) (h : b < n)
   pub limited_after : (r : Result Unit DeviceFault) (ws : List ℕ) → limited n (after_write r m b ws) ≡ after_write (passed r) (limited n m) b ws
   limited_after (Ok u) ws = limited_written ws
   limited_after (Err e) ws = refl
+
+pub passed_ops : (r : Result Unit DeviceFault) (b : ℕ) (ws : List ℕ) → written_ops (passed r) b ws ≡ written_ops r b ws
+passed_ops (Ok u) b ws = refl
+passed_ops (Err e) b ws = refl

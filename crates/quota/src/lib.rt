@@ -1,39 +1,26 @@
 // A quota: a device that offers the first blocks of the one below it.
 #![tactic(auto, using(crate::proofs::Steps::steps))]
 
-ghost use Rattle.std.specs.Prelude.{◌≡◌, IfOk, MatchResult};
+ghost use Rattle.std.specs.Prelude.{◌≡◌, ℕ, [], ◌∷◌, IfOk, MatchResult};
+ghost use Rattle.std.proofs.Common.{ap, ap₂, sym, subst};
 ghost use Rattle.device.specs.declared.Layer.{Layer};
-ghost use Rattle.device.specs.Meaning.{Cut, Meaning, flushed};
-ghost use Rattle.quota.specs.Limited.{Allowed, limited, fits};
+ghost use Rattle.device.specs.Meaning.{Meaning, Shown, flushed};
+ghost use Rattle.device.specs.Cuts.{Op.flush, replay, replay_goes_on};
+ghost use Rattle.quota.specs.Cuts.{CutsKept};
+ghost use Rattle.quota.specs.Limited.{Allowed, limited, limited_shown, readable_limited, shows_limited, fits};
 
-use device::{Device, DeviceFault, Layer, LayerMark, Unshaped, pass_up};
+use device::{Device, DeviceFault, Layer, LayerMark, Reader, Unshaped, pass_up};
 
 #[derive(Drop)]
-pub struct Quota<D: Device> {
-    below: D,
+pub struct Quota<R: Reader> {
+    below: R,
     limit: u32,
-    ghost allowed: { Allowed limit (D.Device.meaning below) },
+    ghost allowed: { Allowed limit (R.Reader.shown below) },
 }
 
-impl<D: Device> Quota<D> {
-    // Builds the layer over a device that has at least `limit` blocks, and flushes the device; else gives it back as it was.
-    pub fn build(mut below: D, limit: u32) -> Result<Quota<D>, Unshaped<D>>
-        ensures built { MatchResult result
-            (λ s. Allowed limit (D.Device.meaning below) × (s.limit ≡ limit)
-            × (D.Device.meaning s.below ≡ flushed (D.Device.meaning below)))
-            (λ u. (Allowed limit (D.Device.meaning below) → ⊥) × (u.given ≡ below)) }
-        ensures shows { IfOk result (λ s. limited s.limit (D.Device.meaning s.below) ≡ limited limit (flushed (D.Device.meaning below))) }
-        ensures cut { IfOk result (λ s. (m : Meaning) → Cut m (D.Device.meaning below) → Cut (limited limit m) (limited s.limit (D.Device.meaning s.below))) }
-    {
-        if !(1..=below.blocks()).contains(&limit) {
-            return Err(Unshaped { given: below });
-        }
-        below.flush();
-        Ok(Quota { below, limit })
-    }
-
-    // Takes the layer off the device again.
-    pub fn into_below(self) -> D
+impl<R: Reader> Quota<R> {
+    // Takes the layer off again.
+    pub fn into_below(self) -> R
         ensures { result ≡ self.below }
     {
         let Quota { below, limit: _ } = self;
@@ -41,12 +28,34 @@ impl<D: Device> Quota<D> {
     }
 }
 
-impl<D: Device> Device for Quota<D> {
+impl<D: Device> Quota<D> {
+    // Builds the layer over a device that has at least `limit` blocks, and flushes the device; else gives it back as it was.
+    pub fn build(mut below: D, limit: u32) -> Result<Quota<D>, Unshaped<D>>
+        ensures built { MatchResult result
+            (λ s. Allowed limit (D.Reader.shown below) × (s.limit ≡ limit)
+            × (D.Device.meaning s.below ≡ flushed (D.Device.meaning below)))
+            (λ u. (Allowed limit (D.Reader.shown below) → ⊥) × (u.given ≡ below)) }
+        ensures calls { IfOk result (λ s. D.Device.led (flush ∷ []) below s.below) }
+        ensures shows { IfOk result (λ s. limited s.limit (D.Device.meaning s.below) ≡ limited limit (flushed (D.Device.meaning below))) }
+        ensures cut { IfOk result (λ s. CutsKept limit (D.Device.meaning below) (limited s.limit (D.Device.meaning s.below))) }
+    {
+        if !(1..=below.blocks()).contains(&limit) {
+            return Err(Unshaped { given: below });
+        }
+        below.flush();
+        Ok(Quota { below, limit })
+    }
+}
+
+impl<R: Reader> Reader for Quota<R> {
     ghost code = { Layer.Quota };
 
-    ghost meaning = { λ s. limited s.limit (D.Device.meaning s.below) };
+    ghost shown = { λ s. limited_shown s.limit (R.Reader.shown s.below) };
 
-    ghost fit = { λ s. fits s.limit (D.Device.meaning s.below) (D.Device.fit s.below) s.allowed };
+    // The limit, and all that lies below.
+    ghost Rest = { ℕ × Shown × R.Reader.Rest };
+
+    ghost rest = { λ s. (s.limit, R.Reader.shown s.below, R.Reader.rest s.below) };
 
     fn layer(&self) -> Layer {
         Layer::Quota
@@ -60,14 +69,23 @@ impl<D: Device> Device for Quota<D> {
         self.below.width()
     }
 
-    fn left(&self) -> (u32, LayerMark) {
-        let (left, mark) = self.below.left();
-        (left, mark.raised())
-    }
-
     fn read(&mut self, block: u32, out: &mut [u32]) -> Result<(), DeviceFault> {
         self.admit(block, out.len())?;
         pass_up(self.below.read(block, out))
+    }
+
+    ghost readable = { λ s. readable_limited s.limit (R.Reader.shown s.below) (R.Reader.readable s.below) s.allowed };
+}
+
+impl<D: Device> Device for Quota<D> {
+    ghost meaning = { λ s. limited s.limit (D.Device.meaning s.below) };
+
+    // The same calls are made below.
+    ghost led = { λ os x y. D.Device.led os x.below y.below × (limited y.limit (D.Device.meaning y.below) ≡ replay os (limited x.limit (D.Device.meaning x.below))) };
+
+    fn left(&self) -> (u32, LayerMark) {
+        let (left, mark) = self.below.left();
+        (left, mark.raised())
     }
 
     fn write(&mut self, block: u32, words: &[u32]) -> Result<(), DeviceFault> {
@@ -78,6 +96,24 @@ impl<D: Device> Device for Quota<D> {
     fn flush(&mut self) {
         self.below.flush();
     }
+
+    ghost shows = { λ s. shows_limited s.limit (D.Device.meaning s.below) (D.Reader.shown s.below) (D.Device.shows s.below) };
+
+    ghost kept = { λ x y shown rest. ap₂ limited (ap (λ q. q.0) rest) (D.Device.kept x.below y.below (ap (λ q. q.1) rest) (ap (λ q. q.2) rest)) };
+
+    ghost fit = { λ s. fits s.limit (D.Device.meaning s.below) (D.Device.fit s.below) (subst (Allowed s.limit) (D.Device.shows s.below) s.allowed) };
+
+    ghost quiet = { λ x y shown rest. (
+      D.Device.quiet x.below y.below (ap (λ q. q.1) rest) (ap (λ q. q.2) rest),
+      sym (ap₂ limited (ap (λ q. q.0) rest) (D.Device.kept x.below y.below (ap (λ q. q.1) rest) (ap (λ q. q.2) rest))),
+    ) };
+
+    ghost goes_on = { λ os ps x y z p q. (
+      D.Device.goes_on os ps x.below y.below z.below p.0 q.0,
+      replay_goes_on os ps (limited x.limit (D.Device.meaning x.below)) (limited y.limit (D.Device.meaning y.below)) (limited z.limit (D.Device.meaning z.below)) p.1 q.1,
+    ) };
+
+    ghost replays = { λ os x y led. led.1 };
 }
 
 #[cfg(test)]

@@ -1,4 +1,4 @@
-use Rattle.std.proofs.Common.{◌≡◌, ℕ, ◌+◌, ◌<◌, List, length, get_or, Some, vec_items, sym, ap, ◌∙◌, arith, length-set}
+use Rattle.std.proofs.Common.{◌≡◌, ℕ, ◌+◌, ◌<◌, List, length, get_or, Some, sym, ap, ◌∙◌, arith, length-set}
 use Rattle.page.specs.Block.{kids_of}
 use Rattle.page.specs.declared.page.Page.{Page}
 use Rattle.page.specs.declared.page.Entry.{Entry}
@@ -18,7 +18,7 @@ retain-requires c =
     let few = c.deref-entry-items.ensures in
     let kid = kid_at p c.deref-entry-items.result.now i c.entry-item.result c.if-page-gt0.true few.0 c.loop-entry-test.true c.entry-item.is in
     record {
-      within = omega (arith, kid, c.loop-entry.self.of.ok.0, c.loop-entry.invariant.long, c.requires.within i (omega (arith, page_kids_length p c.if-page-gt0.true, ap length few.0)));
+      within = omega (arith, kid, c.loop-entry.invariant.long, c.requires.within i (omega (arith, page_kids_length p c.if-page-gt0.true, ap length few.0)));
       room = omega (arith, c.loop-entry.invariant.small c.entry-item.result.value, c.requires.small c.entry-item.result.value, p.few.0, ap length few.0);
     }
 
@@ -27,11 +27,11 @@ loop-entry-preserved c =
     let p : Page = c.args.page.now in
     let i = c.loop-entry.entry-index in
     let x = c.entry-item.result.value in
-    let cs : List ℕ = vec_items c.loop-entry.self.of in
+    let cs : List ℕ = c.loop-entry.self.of.items in
     let few = c.deref-entry-items.ensures in
     let kid = kid_at p c.deref-entry-items.result.now i c.entry-item.result c.if-page-gt0.true few.0 c.loop-entry-test.true c.entry-item.is in
     record {
       long = ap length c.retain.ensures.counts ∙ length-set cs x (get_or cs x 0 + 1) ∙ c.loop-entry.invariant.long;
       small = λ b. omega (arith, ap (λ ds. get_or ds b 0) c.retain.ensures.counts, add_le cs x b, c.loop-entry.invariant.small b);
-      rest = add_next (kids_of (Some (view p))) cs (vec_items c.retain.new.self.of) i x (omega (arith, page_kids_length p c.if-page-gt0.true, ap length few.0)) kid c.retain.ensures.counts ∙ c.loop-entry.invariant.rest;
+      rest = add_next (kids_of (Some (view p))) cs c.retain.new.self.of.items i x (omega (arith, page_kids_length p c.if-page-gt0.true, ap length few.0)) kid c.retain.ensures.counts ∙ c.loop-entry.invariant.rest;
     }

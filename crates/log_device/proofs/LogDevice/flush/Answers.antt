@@ -1,7 +1,7 @@
-use Rattle.std.proofs.Common.{◌≡◌, set, vec_items, sym, subst}
+use Rattle.std.proofs.Common.{◌≡◌, set, vec_items, sym, ap, subst}
 use Rattle.device.specs.Meaning.{flushed}
 use Rattle.word.specs.Words.{word_of}
-use Rattle.log_device.specs.Log.{log_of, Sound, Indexed}
+use Rattle.log_device.specs.Log.{log_of, image_of, Sound, Indexed}
 use Rattle.log_device.proofs.Facts.{flush_after, flush_sound, head_record}
 use Rattle.log_device.proofs.Indexes.{index_same}
 use Rattle.log_device.proofs.LogDevice.flush.Goals as goal
@@ -24,7 +24,7 @@ pub returns : goal.returns
 returns c =
     let s = c.args.self.now in
     let img = s.image.now in
-    record {
-      after = subst (λ x. log_of (set img 0 x) s.layout.blocks s.layout.width s.count ≡ flushed (log_of img s.layout.blocks s.layout.width s.count)) (sym c.word.ensures)
-          (flush_after img s.layout.blocks s.layout.width s.count s.sound);
-    }
+    let after : log_of (set img 0 c.word.result) s.layout.blocks s.layout.width s.count ≡ flushed (log_of img s.layout.blocks s.layout.width s.count)
+    = subst (λ x. log_of (set img 0 x) s.layout.blocks s.layout.width s.count ≡ flushed (log_of img s.layout.blocks s.layout.width s.count)) (sym c.word.ensures)
+    (flush_after img s.layout.blocks s.layout.width s.count s.sound) in
+    record { after = after; calls = (ap (λ x. image_of s.layout.width (set img 0 x) s.count) c.word.ensures, after) }

@@ -9,8 +9,8 @@ use Rattle.device.specs.declared.DeviceFault.{DeviceFault}
 use Rattle.device.specs.declared.DeviceFault.TheVariants.{Worn}
 use Rattle.device.proofs.Calls.{writing_at, spending_worn, spending_ok}
 use Rattle.word.specs.Words.{word_of}
-use Rattle.log_device.specs.Log.{log_of, Sound, Indexed, record_at, capacity, place_of}
-use Rattle.log_device.proofs.Facts.{admitted_at, write_after, write_sound, put_old, put_record}
+use Rattle.log_device.specs.Log.{log_of, image_of, with_record, Sound, Indexed, record_at, capacity, place_of}
+use Rattle.log_device.proofs.Facts.{admitted_at, write_after, write_sound, put_old, put_record, put_is}
 use Rattle.log_device.proofs.Indexes.{index_same, index_more}
 use Rattle.log_device.proofs.LogDevice.write.Goals as goal
 
@@ -81,6 +81,26 @@ returns-clause-after c =
     ap (λ j. log_of (put_mid j (j + w + 1 - j) img c.write_record.new.to) n w (k + 1)) c.place-from.ensures
     ∙ ap (λ xs. log_of (put_mid (place_of w k) (place_of w k + w + 1 - place_of w k) img xs) n w (k + 1)) e
     ∙ write_after img n w k s.sound b ws t.1 t.0 fits room _ size
+
+pub returns-clause-calls : goal.returns-clause-calls
+returns-clause-calls c =
+    let s = c.args.self.now in
+    let img = s.image.now in
+    let n = s.layout.blocks in
+    let w = s.layout.width in
+    let k = s.count in
+    let b = c.args.block in
+    let ws = c.args.words.now in
+    let t = admitted_at img n w k b (length ws) (sym c.in_ok-admit.was ∙ c.admit.ensures) in
+    let fits : AllByRecursion (λ x. x < 2 ^ 32) ws = All-from_get_or (λ x. x < 2 ^ 32) ws 0 (λ i l. omega (arith, c.type_inv.words i)) in
+    let room : k < capacity (length img) w = omega (arith, c.capacity.ensures, c.if-self-capacity.false) in
+    let e : c.write_record.new.to ≡ word_of 9 b ∷ ws = c.write_record.ensures ∙ ap (λ x. x ∷ ws) c.word.ensures in
+    let size : place_of w k + w + 1 - place_of w k ≡ w + 1 = omega arith in
+    let put : put_mid c.place-from.result (c.place-from.result + w + 1 - c.place-from.result) img c.write_record.new.to ≡ with_record w img k b ws
+    = ap (λ j. put_mid j (j + w + 1 - j) img c.write_record.new.to) c.place-from.ensures
+    ∙ ap (λ xs. put_mid (place_of w k) (place_of w k + w + 1 - place_of w k) img xs) e
+    ∙ put_is img n w k s.sound b ws t.1 t.0 fits room _ size in
+    (ap (λ xs. image_of w xs (k + 1)) put, returns-clause-after c)
 
 pub returns-clause-answer : goal.returns-clause-answer
 returns-clause-answer c =

@@ -2,7 +2,7 @@ use Rattle.std.proofs.Common.{◌≡◌, length, replicate, sym, refl, ap, ◌�
 use Rattle.device.specs.Meaning.{answered, filled}
 use Rattle.log_device.specs.Fit.{cell_fit}
 use Rattle.log_device.proofs.Facts.{admitted_at, read_at}
-use Rattle.log_device.proofs.LogDevice.read.Goals as goal
+use Rattle.log_device.proofs.LogReader.read.Goals as goal
 
 pub last-requires : goal.last-requires
 last-requires c =
@@ -21,7 +21,7 @@ returns-in-Some c =
     let n = length c.args.out.now in
     let t = admitted_at s.image.now s.layout.blocks s.layout.width s.count c.args.block n (sym c.in_ok-admit.was ∙ c.admit.ensures) in
     let r = read_at s.image.now s.layout.blocks s.layout.width s.count c.args.block n t.1 t.0 in
-    record { same = refl; answer = sym (ap answered r); buffer = c.copy_from_slice.ensures.after ∙ c.in-Some.ensures ∙ sym (ap (λ x. filled x c.args.out.now) r) }
+    record { same = refl; rest = refl; answer = sym (ap answered r); buffer = c.copy_from_slice.ensures.after ∙ c.in-Some.ensures ∙ sym (ap (λ x. filled x c.args.out.now) r) }
 
 pub returns-in-None : goal.returns-in-None
 returns-in-None c =
@@ -30,4 +30,4 @@ returns-in-None c =
     let t = admitted_at s.image.now s.layout.blocks s.layout.width s.count c.args.block n (sym c.in_ok-admit.was ∙ c.admit.ensures) in
     let r = read_at s.image.now s.layout.blocks s.layout.width s.count c.args.block n t.1 t.0 in
     let zeros : c.fill.new.self ≡ replicate n 0 = c.fill.ensures.after (λ y e. e) in
-    record { same = refl; answer = sym (ap answered r); buffer = zeros ∙ ap (λ k. replicate k 0) t.0 ∙ sym (c.in-None.ensures) ∙ sym (ap (λ x. filled x c.args.out.now) r) }
+    record { same = refl; rest = refl; answer = sym (ap answered r); buffer = zeros ∙ ap (λ k. replicate k 0) t.0 ∙ sym (c.in-None.ensures) ∙ sym (ap (λ x. filled x c.args.out.now) r) }

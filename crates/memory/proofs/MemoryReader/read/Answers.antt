@@ -3,7 +3,7 @@ use Rattle.device.specs.Meaning.{answered, filled}
 use Rattle.memory.specs.Memory.{parts_of}
 use Rattle.memory.proofs.Facts.{admitted_at, read_at}
 use Rattle.memory.specs.Fit.{block_length}
-use Rattle.memory.proofs.MemoryDevice.read.Goals as goal
+use Rattle.memory.proofs.MemoryReader.read.Goals as goal
 
 pub words-requires : goal.words-requires
 words-requires c =
@@ -22,4 +22,4 @@ returns c =
     let n = length c.args.out.now in
     let t = admitted_at (parts_of s.slices s.width) c.args.block n (sym c.in_ok-admit.was ∙ c.admit.ensures) in
     let r = read_at (parts_of s.slices s.width) s.sound c.args.block n t.1 t.0 in
-    record { same = refl; answer = sym (ap answered r); buffer = c.copy_from_slice.ensures.after ∙ c.words.ensures ∙ sym (ap (λ x. filled x c.args.out.now) r) }
+    record { same = refl; rest = refl; answer = sym (ap answered r); buffer = c.copy_from_slice.ensures.after ∙ c.words.ensures ∙ sym (ap (λ x. filled x c.args.out.now) r) }
