@@ -1,9 +1,9 @@
 -- A cut of both sides is a cut of the mirror, at rest and inside a write, a flush or a building.
-use Rattle.std.proofs.Common.{◌≡◌, ℕ, ◌<◌, ◌≤◌, ◌⊎◌, List, sym, refl, ap, ◌∙◌, subst, inl, inr, ⊎_elim, arith}
+use Rattle.std.proofs.Common.{◌≡◌, ℕ, zero, suc, ◌+◌, min, ◌<◌, ◌≤◌, ◌⊎◌, List, sym, refl, ap, ◌∙◌, subst, inl, inr, ⊎_elim, arith}
 use Rattle.std.proofs.lemmas.Bool.{cases_eq}
 use Rattle.std.proofs.lemmas.List.{length-set, length-map}
 use Rattle.device.specs.Meaning.{Meaning, Cell, Content, words, damaged, Cut, CutCell, CutTo, Held, Lawful, LawfulCell, written, written_cell, flushed, flushed_cell, blocks_of, cell_at}
-use Rattle.device.proofs.Cuts.{clean, once, often, any, cut_flushed, cut_again}
+use Rattle.device.proofs.Cuts.{any, cut_flushed, cut_again}
 use Rattle.device.proofs.Choices.{flush_at, write_at, write_off}
 use Rattle.mirror.specs.Mirrored.{Alike, One, mirrored, mirrored_cell, both_at, pick, mirrored_blocks, held_pick, first_lawful, second_lawful}
 use Rattle.mirror.specs.Cuts.{CutsKept}
@@ -25,52 +25,45 @@ ones p q x y ws h k =
     new (words a) = inl refl
     new (damaged j) = inr refl
 
--- the two sides' cells of a block, and what a cut leaves of them
-module _ (w : ℕ) (c d : Cell) (same : c.mark ≡ d.mark) (one : 1 ≤ c.mark → One c.current d.current) (x y : Content) where
-  at_rest : CutTo w c x → CutTo w d y → CutTo w (mirrored_cell c d) (pick x y)
-  at_rest s t =
-      ⊎_elim
-      (λ h. inl (omega (arith, h.0), ap (λ z. pick z y) h.1 ∙ ap (pick c.current) (clean w d y t (sym same ∙ h.0))))
-      (⊎_elim
-      (λ h.
-      let o = one (omega (arith, h.0)) in
+-- the two sides' cells of a block, marked alike, and what a cut leaves of them
+module _ (w : ℕ) (c d : Cell) (x y : Content) where
+  at_rest : (k : ℕ) → (1 ≤ k → One c.current d.current) → CutTo w k c x → CutTo w k d y → CutTo w k (mirrored_cell c d) (pick x y)
+  at_rest zero one s t = ap (λ z. pick z y) s ∙ ap (pick c.current) t
+  at_rest (suc zero) one s t =
+      let o = one (omega arith) in
       let e : c.current ≡ words o.0 = o.1 in
-      let p : (x ≡ c.persisted) ⊎ (x ≡ words o.0) = ⊎_elim (λ z. inl z) (λ z. inr (z ∙ e)) h.1 in
-      let q : (y ≡ d.persisted) ⊎ (y ≡ words o.0) = ⊎_elim (λ z. inl z) (λ z. inr (z ∙ o.2)) (once w d y t (sym same ∙ h.0)) in
-      inr (inl (omega (arith, h.0), ⊎_elim (λ z. inl z) (λ z. inr (z ∙ sym (ap (λ v. pick v d.current) e))) (ones c.persisted d.persisted x y o.0 p q))))
-      (λ h. inr (inr (omega (arith, h.0), held_pick w x y h.1 (often w d y t (omega (arith, h.0)))))))
-      s
+      let p : (x ≡ c.persisted) ⊎ (x ≡ words o.0) = ⊎_elim (λ z. inl z) (λ z. inr (z ∙ e)) s in
+      let q : (y ≡ d.persisted) ⊎ (y ≡ words o.0) = ⊎_elim (λ z. inl z) (λ z. inr (z ∙ o.2)) t in
+      ⊎_elim (λ z. inl z) (λ z. inr (z ∙ sym (ap (λ v. pick v d.current) e))) (ones c.persisted d.persisted x y o.0 p q)
+  at_rest (suc (suc n)) one s t = held_pick w x y s t
 
   -- with the first side written
-  half_written : LawfulCell w d → (ws : List ℕ) → CutTo w (written_cell ws c) x → CutTo w d y → CutTo w (written_cell ws (mirrored_cell c d)) (pick x y)
-  half_written l ws s t =
-      ⊎_elim
-      (λ (z : c.mark ≡ 0).
-      let e : y ≡ d.persisted = clean w d y t (sym same ∙ z) ∙ sym (l.clean (sym same ∙ z)) in
-      inr (inl (
-        omega (arith, same),
-        ⊎_elim
-            (λ p. inl (ap (λ v. pick v y) p ∙ ap (pick c.persisted) e))
-            (λ p. inr (ap (λ v. pick v y) p))
-            (once w (written_cell ws c) x s (omega arith)),
-      )))
-      (λ (nz : c.mark ≡ 0 → ⊥). inr (inr (omega (arith, same), held_pick w x y (often w (written_cell ws c) x s (omega arith)) (any w d y l t))))
-      (cases_eq c.mark 0)
+  half_written : LawfulCell w d → (ws : List ℕ) (k j : ℕ) → j ≡ min (k + 1) 2 → (k ≡ 0 → d.persisted ≡ d.current)
+      → CutTo w j (written_cell ws c) x → CutTo w k d y → CutTo w j (written_cell ws (mirrored_cell c d)) (pick x y)
+  half_written l ws zero j e clean =
+      subst (λ j. CutTo w j (written_cell ws c) x → CutTo w 0 d y → CutTo w j (written_cell ws (mirrored_cell c d)) (pick x y)) (sym one)
+      (λ s t. ⊎_elim (λ p. inl (ap (λ v. pick v y) p ∙ ap (pick c.persisted) (t ∙ sym (clean refl)))) (λ p. inr (ap (λ v. pick v y) p)) s)
+    where
+      one : j ≡ 1
+      one = omega (arith, e)
+  half_written l ws (suc k) j e clean =
+      subst (λ j. CutTo w j (written_cell ws c) x → CutTo w (suc k) d y → CutTo w j (written_cell ws (mirrored_cell c d)) (pick x y)) (sym two)
+      (λ s t. held_pick w x y s (any w (suc k) d y l t))
+    where
+      two : j ≡ 2
+      two = omega (arith, e)
 
   -- with the first side flushed
-  half_flushed : LawfulCell w c → CutTo w (flushed_cell c) x → CutTo w d y → CutTo w (mirrored_cell c d) (pick x y)
-  half_flushed l s t =
-      let e : x ≡ c.current = clean w (flushed_cell c) x s refl in
-      ⊎_elim
-      (λ h. inl (omega (arith, h.0, same), ap (λ v. pick v y) e ∙ ap (pick c.current) h.1))
-      (⊎_elim
-      (λ h. let o = one (omega (arith, h.0, same)) in
-      inr (inl (omega (arith, h.0, same), inr (ap (λ v. pick v y) (e ∙ o.1) ∙ sym (ap (λ v. pick v d.current) o.1)))))
-      (λ h. inr (inr (omega (arith, h.0, same), held_pick w x y (subst (Held w) (sym e) l.current) h.1))))
-      t
+  half_flushed : LawfulCell w c → (k : ℕ) → (1 ≤ k → One c.current d.current) → x ≡ c.current → CutTo w k d y → CutTo w k (mirrored_cell c d) (pick x y)
+  half_flushed l zero one e t = ap (λ v. pick v y) e ∙ ap (pick c.current) t
+  half_flushed l (suc zero) one e t = let o = one (omega arith) in inr (ap (λ v. pick v y) (e ∙ o.1) ∙ sym (ap (λ v. pick v d.current) o.1))
+  half_flushed l (suc (suc n)) one e t = held_pick w x y (subst (Held w) (sym e) l.current) t
+
+moved_mark : (w : ℕ) {j k : ℕ} (c : Cell) (x : Content) → j ≡ k → CutTo w j c x → CutTo w k c x
+moved_mark w c x e t = subst (λ k. CutTo w k c x) e t
 
 -- two cells that a cut left, as the mirror shows them
-both : (w : ℕ) (c d e x y : Cell) → CutCell w c x → CutCell w d y → CutTo w e (pick x.current y.current) → CutCell w e (mirrored_cell x y)
+both : (w : ℕ) (c d e x y : Cell) → CutCell w c x → CutCell w d y → CutTo w e.mark e (pick x.current y.current) → CutCell w e (mirrored_cell x y)
 both w c d e x y k l t = record {
   mark = omega (arith, k.mark, l.mark);
   equal = ap (λ z. pick z y.persisted) k.equal ∙ ap (pick x.current) l.equal;
@@ -85,11 +78,16 @@ by_blocks v p q e f few h = record {
   blocks = mirrored_blocks p q ∙ f;
   cells = λ b i. subst (CutCell v.width (cell_at v b)) (sym (cell_mirrored p q b (omega (arith, f)))) (h b i);
   left = omega (arith, few);
+  left_mark = omega arith;
 }
 
 module _ (m n p q : Meaning) (a : Alike m n) (l : Cut n q) where
   second : (b : ℕ) → b < blocks_of m → CutCell m.width (cell_at n b) (cell_at q b)
   second b h = subst (λ w. CutCell w (cell_at n b) (cell_at q b)) (sym a.shape.1) (l.cells b (omega (arith, a.shape.0)))
+
+  -- by the first side's mark
+  second_to : (b : ℕ) → b < blocks_of m → CutTo m.width (cell_at m b).mark (cell_at n b) (cell_at q b).current
+  second_to b h = moved_mark m.width (cell_at n b) (cell_at q b).current (sym (a.marks b h)) (second b h).from
 
   -- a block that is as the mirror of m and n has it
   block : (v : Meaning) (b : ℕ) → b < blocks_of m → cell_at v b ≡ cell_at (mirrored m n) b → CutCell m.width (cell_at m b) (cell_at p b)
@@ -97,7 +95,8 @@ module _ (m n p q : Meaning) (a : Alike m n) (l : Cut n q) where
   block v b h e k =
       subst (λ x. CutCell m.width x (both_at p q b)) (sym (e ∙ cell_mirrored m n b h))
       (both m.width (cell_at m b) (cell_at n b) (both_at m n b) (cell_at p b) (cell_at q b) k (second b h)
-      (at_rest m.width (cell_at m b) (cell_at n b) (a.marks b h) (a.currents b h) (cell_at p b).current (cell_at q b).current k.from (second b h).from))
+      (moved_mark m.width (both_at m n b) (pick (cell_at p b).current (cell_at q b).current) (omega (arith, a.marks b h))
+      (at_rest m.width (cell_at m b) (cell_at n b) (cell_at p b).current (cell_at q b).current (cell_at m b).mark (a.currents b h) k.from (second_to b h))))
 
   between : Cut m p → Cut (mirrored m n) (mirrored p q)
   between k = by_blocks (mirrored m n) p q k.width (k.blocks ∙ sym (mirrored_blocks m n)) k.left (λ b i.
@@ -112,8 +111,8 @@ module _ (m n p q : Meaning) (a : Alike m n) (l : Cut n q) where
       let u : CutCell m.width (flushed_cell (cell_at m b)) (cell_at p b) = subst (λ x. CutCell m.width x (cell_at p b)) (flush_at m b) (k.cells b (omega (arith, e))) in
       subst (λ x. CutCell m.width x (both_at p q b)) (sym (cell_mirrored m n b h))
       (both m.width (flushed_cell (cell_at m b)) (cell_at n b) (both_at m n b) (cell_at p b) (cell_at q b) u (second b h)
-      (half_flushed m.width (cell_at m b) (cell_at n b) (a.marks b h) (a.currents b h) (cell_at p b).current (cell_at q b).current
-      (first_lawful m n lm ln a b h) u.from (second b h).from)))
+      (moved_mark m.width (both_at m n b) (pick (cell_at p b).current (cell_at q b).current) (omega (arith, a.marks b h))
+      (half_flushed m.width (cell_at m b) (cell_at n b) (cell_at p b).current (cell_at q b).current (first_lawful m n lm ln a b h) (cell_at m b).mark (a.currents b h) u.from (second_to b h)))))
 
   in_write : (b : ℕ) (ws : List ℕ) → Lawful m → Lawful n → b < blocks_of m → Cut (written m b ws) p → Cut (written (mirrored m n) b ws) (mirrored p q)
   in_write b ws lm ln h k =
@@ -121,12 +120,14 @@ module _ (m n p q : Meaning) (a : Alike m n) (l : Cut n q) where
       let e : blocks_of (written m b ws) ≡ blocks_of m = length-set m.cells b (written_cell ws (cell_at m b)) in
       let f : blocks_of v ≡ blocks_of m = length-set (mirrored m n).cells b (written_cell ws (cell_at (mirrored m n) b)) ∙ mirrored_blocks m n in
       let u : CutCell m.width (written_cell ws (cell_at m b)) (cell_at p b) = subst (λ x. CutCell m.width x (cell_at p b)) (write_at m b ws h) (k.cells b (omega (arith, e))) in
+      let l' = second_lawful m n lm ln a b h in
       let here : CutCell m.width (cell_at v b) (both_at p q b) =
       subst (λ x. CutCell m.width x (both_at p q b))
       (sym (write_at (mirrored m n) b ws (omega (arith, mirrored_blocks m n)) ∙ ap (written_cell ws) (cell_mirrored m n b h)))
       (both m.width (written_cell ws (cell_at m b)) (cell_at n b) (written_cell ws (both_at m n b)) (cell_at p b) (cell_at q b) u (second b h)
-      (half_written m.width (cell_at m b) (cell_at n b) (a.marks b h) (a.currents b h) (cell_at p b).current (cell_at q b).current
-      (second_lawful m n lm ln a b h) ws u.from (second b h).from)) in
+      (moved_mark m.width (written_cell ws (both_at m n b)) (pick (cell_at p b).current (cell_at q b).current) (omega (arith, a.marks b h))
+      (half_written m.width (cell_at m b) (cell_at n b) (cell_at p b).current (cell_at q b).current l' ws (cell_at m b).mark (min ((cell_at m b).mark + 1) 2) refl
+      (λ z. l'.clean (sym (a.marks b h) ∙ z)) u.from (second_to b h)))) in
       by_blocks v p q k.width (k.blocks ∙ e ∙ sym f) k.left (λ i j.
       let i< : i < blocks_of m = omega (arith, f) in
       ⊎_elim

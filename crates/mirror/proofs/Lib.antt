@@ -1,3 +1,4 @@
 pub mod Follows
 pub mod Cuts
+pub mod Calls
 pub mod Steps

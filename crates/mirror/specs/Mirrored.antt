@@ -6,7 +6,7 @@ use mathlib.Core.HLevel.{is_prop→PathP}
 use Rattle.std.specs.List.{range_with_len}
 use Rattle.std.proofs.lemmas.List.FromFn.{length-map-range_with_len}
 use Rattle.std.proofs.ByRecursion.{All-get_or}
-use Rattle.device.specs.Meaning.{Meaning, Cell, Content, words, damaged, raised, LawfulCell, Lawful, Held, no_cell, blocks_of, cell_at}
+use Rattle.device.specs.Meaning.{Meaning, Cell, Content, words, damaged, raised, Limits, LawfulCell, Lawful, Held, no_cell, blocks_of, cell_at}
 use Rattle.device.proofs.Tables.{all_table}
 
 -- the sides that a mirror is built over: as many blocks, and as wide
@@ -92,11 +92,9 @@ module _ (m n : Meaning) (l : Lawful m) (k : Lawful n) (a : Alike m n) (b : ℕ)
 
 pub fits : (m n : Meaning) → Lawful m → Lawful n → Alike m n → Lawful (mirrored m n)
 fits m n l k a = record {
-  some = omega (arith, mirrored_blocks m n, l.some);
-  few = omega (arith, mirrored_blocks m n, l.few);
-  broad = l.broad;
-  narrow = l.narrow;
+  limits = subst (λ k. Limits k m.width) (sym (mirrored_blocks m n)) l.limits;
   cells = all_table (LawfulCell m.width) (both_at m n) (blocks_of m) (λ b h.
       lawful m.width (cell_at m b) (cell_at n b) (first_lawful m n l k a b h) (second_lawful m n l k a b h));
   left = omega (arith, l.left);
+  left_mark = omega arith;
 }
