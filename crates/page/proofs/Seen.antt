@@ -4,9 +4,9 @@ use Rattle.std.proofs.lemmas.List.{get_or-drop, get_or_past, length-take-le, len
 use Rattle.std.proofs.lemmas.Bool.{cases_lt, false≢true, and_parts, leb-true, ltb-true, eq-eqb, ne_eqb}
 use Rattle.device.specs.declared.DeviceFault.{DeviceFault}
 use Rattle.device.specs.declared.Layer.{Layer}
-use Rattle.device.specs.Meaning.{Meaning, Content, Cell, words, damaged, current_at, blocks_of, no_cell, reading, held, answered, filled}
+use Rattle.device.specs.Meaning.{Shown, Content, words, damaged, content_at, count_of, reading, held, answered, filled}
 use Rattle.device.proofs.Calls.{reading_at}
-use Rattle.page.specs.Block.{Block, pairs, read, encode, same, fits, decode, block_in, block_at}
+use Rattle.page.specs.Block.{Block, pairs, read, encode, same, fits, decode, block_in, shown_block}
 use Rattle.page.specs.Readable.{Readable}
 use Rattle.page.proofs.Words.{pairs_length}
 use Rattle.tree.specs.Reads.{look}
@@ -80,23 +80,22 @@ that : {A : Type 0} (o : Option A) → is_some o ≡ true → (x : A) × (o ≡ 
 that None h = absurd (false≢true h)
 that (Some x) h = (x, refl)
 
-pub record Standing (l : Layer) (m : Meaning) (b n : ℕ) : Type 0 where
+pub record Standing (l : Layer) (s : Shown) (b n : ℕ) : Type 0 where
   pub ws : List ℕ
   pub node : Block
-  pub answer : reading l m b n ≡ Ok ws
-  pub holds : block_at m b ≡ Some node
+  pub answer : reading l s b n ≡ Ok ws
+  pub holds : shown_block s b ≡ Some node
   pub decoded : Decoded ws node
 
-pub standing : (l : Layer) (m : Meaning) (b n : ℕ) → n ≡ m.width → is_some (block_at m b) ≡ true → Standing l m b n
-unfolding block_at
-standing l m b n e h =
-    let on : b < blocks_of m = ⊎_elim (λ l. l) (λ past. absurd (false≢true (ap (λ (k : Cell). is_some (block_in k.current)) (sym (get_or_past m.cells b no_cell past)) ∙ h))) (cases_lt b (blocks_of m)) in
-    let w = held_words (current_at m b) h in
-    let x = that (block_in (current_at m b)) h in
+pub standing : (l : Layer) (s : Shown) (b n : ℕ) → n ≡ s.width → is_some (shown_block s b) ≡ true → Standing l s b n
+standing l s b n e h =
+    let on : b < count_of s = ⊎_elim (λ l. l) (λ past. absurd (false≢true (ap (λ (k : Content). is_some (block_in k)) (sym (get_or_past s.contents b (words []) past)) ∙ h))) (cases_lt b (count_of s)) in
+    let w = held_words (content_at s b) h in
+    let x = that (shown_block s b) h in
     record {
       ws = w.0;
       node = x.0;
-      answer = reading_at l m b n e on ∙ ap held w.1;
+      answer = reading_at l s b n e on ∙ ap held w.1;
       holds = x.1;
       decoded = decoded w.0 x.0 (sym (ap block_in w.1) ∙ x.1);
     }
@@ -116,8 +115,8 @@ pub front_width : (k w : ℕ) (ws : List ℕ) → k ≡ w → w ≤ 40 → lengt
 front_width k w ws e h l = length-take-le k ws (omega (arith, e, h, l)) ∙ e
 
 -- The words of a block in the front of the buffer are read as the block.
-pub front_readable : (l : Layer) (m : Meaning) (b n : ℕ) (x : Standing l m b n) (out zs : List ℕ) → out ≡ x.ws → 32 ≤ length out → length out + length zs ≡ 40 → Readable (out ++ zs)
-front_readable l m b n x out zs e h t =
+pub front_readable : (l : Layer) (s : Shown) (b n : ℕ) (x : Standing l s b n) (out zs : List ℕ) → out ≡ x.ws → 32 ≤ length out → length out + length zs ≡ 40 → Readable (out ++ zs)
+front_readable l s b n x out zs e h t =
     let f : get_or (out ++ zs) 0 0 ≡ get_or x.ws 0 0 = first_front out zs h ∙ ap (λ ws. get_or ws 0 0) e in
     record {
       wide = length-append out zs ∙ t;
@@ -125,8 +124,8 @@ front_readable l m b n x out zs e h t =
       low = subst (λ (n : ℕ). n % 268435456 / 256 ≤ 4) (sym f) x.decoded.low;
     }
 
-pub front_read : (l : Layer) (m : Meaning) (b n : ℕ) (x : Standing l m b n) (out zs : List ℕ) → out ≡ x.ws → 32 ≤ length out → block_at m b ≡ Some (read (out ++ zs))
-front_read l m b n x out zs e h =
+pub front_read : (l : Layer) (s : Shown) (b n : ℕ) (x : Standing l s b n) (out zs : List ℕ) → out ≡ x.ws → 32 ≤ length out → shown_block s b ≡ Some (read (out ++ zs))
+front_read l s b n x out zs e h =
     x.holds ∙ ap Some (sym (read_front out zs h (subst (λ ws. get_or ws 0 0 % 256 ≤ 15) (sym e) x.decoded.few) ∙ ap read e ∙ x.decoded.is))
 
 -- Whether the words in the front of the buffer hold a block, and which.

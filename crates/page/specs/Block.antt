@@ -5,7 +5,7 @@
 use Rattle.std.specs.Prelude.{◌≡◌, ℕ, zero, suc, ◌+◌, ◌-◌, ◌*◌, ◌/◌, ◌%◌, ◌<◌, ◌≤◌, Bool, cond, ◌&&◌, List, [], ◌∷◌, ◌++◌, map, length, drop, replicate, Some, None, Option, ◌==◌, nat_le, nat_lt, slice_index, slice_index_or}
 use Rattle.std.specs.Str.{bytes_eq}
 use Rattle.word.specs.Words.{payload_of, word_of}
-use Rattle.device.specs.Meaning.{Meaning, Content, words, damaged, current_at}
+use Rattle.device.specs.Meaning.{Meaning, Shown, Content, words, damaged, current_at, content_at}
 
 -- A leaf has level 0. An entry is a speed or separator, and a payload: the angle + 9,000 in a leaf, a child's block in an index block.
 pub record Block : Type 0 where
@@ -54,6 +54,10 @@ decode ws = cond (fits (read ws) && same ws (encode (length ws) (read ws))) (Som
 abbrev pub block_in : Content → Option Block
 block_in (words ws) = decode ws
 block_in (damaged k) = None
+
+-- the tree block that a reader shows in block b
+abbrev pub shown_block : Shown → ℕ → Option Block
+shown_block s b = block_in (content_at s b)
 
 -- the tree block that stands in block b of a device
 unfoldable pub block_at : Meaning → ℕ → Option Block

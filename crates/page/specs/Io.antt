@@ -1,9 +1,12 @@
 -- Blocks read and written on a device.
 use Rattle.std.specs.Prelude.{◌≡◌, ℕ, ◌≤◌, List, Ok, Err, Result, MatchResult}
 use Rattle.device.specs.declared.DeviceFault.{DeviceFault}
-use Rattle.device.specs.Meaning.{Meaning}
+use Rattle.device.specs.Meaning.{Meaning, Shown}
 
 -- a width that a volume uses
+abbrev pub Broad : Shown → Type 0
+Broad s = (32 ≤ s.width) × (s.width ≤ 40)
+
 abbrev pub Wide : Meaning → Type 0
 Wide m = (32 ≤ m.width) × (m.width ≤ 40)
 

@@ -1,15 +1,15 @@
 // A tree block as the words of its block, to be read: an entry is taken from its two words when it is asked for.
 ghost use Rattle.std.specs.Prelude.{◌≡◌, ℕ, suc, ◌<◌, ◌≤◌, true, is_some, length, Some, None, slice_index_or, if◌then◌else◌, []};
 ghost use Rattle.device.specs.Meaning.{reading};
-ghost use Rattle.page.specs.Block.{block_at, decode};
-ghost use Rattle.page.specs.Io.{Wide, ReadAs};
+ghost use Rattle.page.specs.Block.{shown_block, decode};
+ghost use Rattle.page.specs.Io.{Broad, ReadAs};
 ghost use Rattle.page.specs.View.{view};
 ghost use Rattle.tree.specs.Reads.{look};
 
 use super::codec::is_page;
 use super::page::{Entry, Page};
 use arrayvec::ArrayVec;
-use device::{Device, DeviceFault};
+use device::{DeviceFault, Reader};
 use std::marker::Model;
 use word::payload;
 
@@ -41,24 +41,27 @@ impl PageWords {
     }
 
     // Reads the page of a block that holds one.
-    pub fn load<D: Device>(&mut self, device: &mut D, block: u32)
-        requires wide { Wide (D.Device.meaning device.old) }
-        requires stands { is_some (block_at (D.Device.meaning device.old) block) ≡ true }
-        ensures same { D.Device.meaning device.new ≡ D.Device.meaning device.old }
-        ensures page { block_at (D.Device.meaning device.old) block ≡ Some self.new }
+    pub fn load<R: Reader>(&mut self, reader: &mut R, block: u32)
+        requires wide { Broad (R.Reader.shown reader.old) }
+        requires stands { is_some (shown_block (R.Reader.shown reader.old) block) ≡ true }
+        ensures same { R.Reader.shown reader.new ≡ R.Reader.shown reader.old }
+        ensures rest { R.Reader.rest reader.new ≡ R.Reader.rest reader.old }
+        ensures page { shown_block (R.Reader.shown reader.old) block ≡ Some self.new }
     {
-        let width = device.width() as usize;
-        device.read(block, &mut self.words[..width]).unwrap();
+        let width = reader.width() as usize;
+        reader.read(block, &mut self.words[..width]).unwrap();
     }
 
     // Reads a block that may hold a page; whether it does.
-    pub fn try_load<D: Device>(&mut self, device: &mut D, block: u32) -> Result<bool, DeviceFault>
-        requires { Wide (D.Device.meaning device.old) }
-        ensures same { D.Device.meaning device.new ≡ D.Device.meaning device.old }
-        ensures answer { ReadAs (λ ws holds. decode ws ≡ (if holds then Some self.new else None)) (reading D.Device.code (D.Device.meaning device.old) block (D.Device.meaning device.old).width) result }
+    pub fn try_load<R: Reader>(&mut self, reader: &mut R, block: u32) -> Result<bool, DeviceFault>
+        requires { Broad (R.Reader.shown reader.old) }
+        ensures same { R.Reader.shown reader.new ≡ R.Reader.shown reader.old }
+        ensures rest { R.Reader.rest reader.new ≡ R.Reader.rest reader.old }
+        ensures answer { ReadAs (λ ws holds. decode ws ≡ (if holds then Some self.new else None))
+            (reading R.Reader.code (R.Reader.shown reader.old) block (R.Reader.shown reader.old).width) result }
     {
-        let width = device.width() as usize;
-        device.read(block, &mut self.words[..width])?;
+        let width = reader.width() as usize;
+        reader.read(block, &mut self.words[..width])?;
         let holds = is_page(&self.words[..width]);
         if !holds {
             *self = PageWords::empty();

@@ -6,9 +6,9 @@ use Rattle.page.proofs.io.read_slot.Goals as goal
 
 pub returns-clause-answer : goal.returns-clause-answer
 returns-clause-answer g c =
-    let m = g.D.Device.meaning c.args.device.now in
+    let m = g.R.Reader.shown c.args.reader.now in
     let buffer : List ℕ = take c.width-width.result (replicate 40 0) in
-    let at : ℕ → Result (List ℕ) DeviceFault = reading g.D.Device.code m c.args.block in (
+    let at : ℕ → Result (List ℕ) DeviceFault = reading g.R.Reader.code m c.args.block in (
       c.read.new.out,
       ap at (sym (front_width c.width-width.result m.width (replicate 40 0) c.width-width.ensures c.requires.1 refl)) ∙ read_ok (at (length buffer)) buffer c.read.new.out (sym c.read.ensures.answer ∙ c.in_ok-read.was) c.read.ensures.buffer,
       c.decode.ensures,

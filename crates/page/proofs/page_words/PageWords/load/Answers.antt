@@ -5,23 +5,23 @@ use Rattle.page.proofs.page_words.PageWords.load.Goals as goal
 
 pub unwrap-requires : goal.unwrap-requires
 unwrap-requires g c =
-    let m = g.D.Device.meaning c.args.device.now in
-    let x = standing g.D.Device.code m c.args.block _ (front_width c.width-width.result m.width c.self.inside.words c.width-width.ensures c.requires.wide.1 c.self.told) c.requires.stands in
+    let m = g.R.Reader.shown c.args.reader.now in
+    let x = standing g.R.Reader.code m c.args.block _ (front_width c.width-width.result m.width c.self.inside.words c.width-width.ensures c.requires.wide.1 c.self.told) c.requires.stands in
     rw (c.read.ensures.answer ∙ ap answered x.answer) refl
 
 pub invariant_of-self : goal.invariant_of-self
 invariant_of-self g c =
-    let m = g.D.Device.meaning c.args.device.now in
+    let m = g.R.Reader.shown c.args.reader.now in
     let w = front_width c.width-width.result m.width c.self.inside.words c.width-width.ensures c.requires.wide.1 c.self.told in
-    let x = standing g.D.Device.code m c.args.block _ w c.requires.stands in
+    let x = standing g.R.Reader.code m c.args.block _ w c.requires.stands in
     let e : c.read.new.out ≡ x.ws = c.read.ensures.buffer ∙ ap (λ r. filled r (take c.width-width.result c.self.inside.words)) x.answer in
-    front_readable g.D.Device.code m c.args.block _ x c.read.new.out _ e (omega (arith, c.read.auto.out, w, c.requires.wide.0))
+    front_readable g.R.Reader.code m c.args.block _ x c.read.new.out _ e (omega (arith, c.read.auto.out, w, c.requires.wide.0))
     (omega (arith, c.read.auto.out, w, length-drop c.width-width.result c.self.inside.words, c.width-width.ensures, c.requires.wide.1, c.self.told))
 
 pub returns-clause-page : goal.returns-clause-page
 returns-clause-page g c =
-    let m = g.D.Device.meaning c.args.device.now in
+    let m = g.R.Reader.shown c.args.reader.now in
     let w = front_width c.width-width.result m.width c.self.inside.words c.width-width.ensures c.requires.wide.1 c.self.told in
-    let x = standing g.D.Device.code m c.args.block _ w c.requires.stands in
+    let x = standing g.R.Reader.code m c.args.block _ w c.requires.stands in
     let e : c.read.new.out ≡ x.ws = c.read.ensures.buffer ∙ ap (λ r. filled r (take c.width-width.result c.self.inside.words)) x.answer in
-    front_read g.D.Device.code m c.args.block _ x c.read.new.out _ e (omega (arith, c.read.auto.out, w, c.requires.wide.0))
+    front_read g.R.Reader.code m c.args.block _ x c.read.new.out _ e (omega (arith, c.read.auto.out, w, c.requires.wide.0))

@@ -8,11 +8,11 @@ use Rattle.page.proofs.page_words.PageWords.try_load.Goals as goal
 
 pub returns-else-not-holds-clause-answer : goal.returns-else-not-holds-clause-answer
 returns-else-not-holds-clause-answer g c =
-    let m = g.D.Device.meaning c.args.device.now in
+    let m = g.R.Reader.shown c.args.reader.now in
     let out = c.read.new.out in
     let zs = drop c.width-width.result c.self.inside.words in
     let buffer : List ℕ = take c.width-width.result c.self.inside.words in
-    let at : ℕ → Result (List ℕ) DeviceFault = reading g.D.Device.code m c.args.block in
+    let at : ℕ → Result (List ℕ) DeviceFault = reading g.R.Reader.code m c.args.block in
     let w = front_width c.width-width.result m.width c.self.inside.words c.width-width.ensures c.requires.1 c.self.told in
     let long : length out ≡ m.width = omega (arith, c.read.auto.out, w) in
     let front : take c.width-width.result (out ++ zs) ≡ out
