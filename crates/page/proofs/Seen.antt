@@ -1,5 +1,5 @@
 -- Words that are read as a tree block, entry by entry.
-use Rattle.std.proofs.Common.{◌≡◌, ℕ, zero, suc, ◌+◌, ◌*◌, ◌/◌, ◌%◌, ◌<◌, ◌≤◌, Bool, true, false, cond, ◌&&◌, ltb, leb, eqb, List, [], ◌∷◌, ◌++◌, length, get_or, take, drop, is_some, Some, None, Ok, Err, Option, Result, sym, refl, ap, ◌∙◌, ap₂, subst, ⊎_elim, arith}
+use Rattle.std.proofs.Common.{◌≡◌, ℕ, zero, suc, ◌+◌, ◌*◌, ◌/◌, ◌%◌, ◌<◌, ◌≤◌, Bool, true, false, cond, ◌&&◌, ltb, leb, List, [], ◌∷◌, ◌++◌, length, get_or, take, drop, is_some, Some, None, Ok, Err, Option, Result, sym, refl, ap, ◌∙◌, ap₂, subst, ⊎_elim, arith}
 use Rattle.std.proofs.lemmas.List.{get_or-drop, get_or_past, length-take-le, length-append}
 use Rattle.std.proofs.lemmas.Bool.{cases_lt, false≢true, and_parts, leb-true, ltb-true, eq-eqb, ne_eqb}
 use Rattle.device.specs.declared.DeviceFault.{DeviceFault}

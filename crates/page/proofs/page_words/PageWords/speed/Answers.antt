@@ -1,4 +1,4 @@
-use Rattle.std.proofs.Common.{◌≡◌, ℕ, ◌+◌, ◌*◌, ◌<◌, ◌≤◌, length, get_or, sym, ap, ◌∙◌, subst, arith}
+use Rattle.std.proofs.Common.{ℕ, ◌<◌, length, get_or, sym, ap, ◌∙◌, arith}
 use Rattle.page.specs.Block.{Block, read}
 use Rattle.page.proofs.Seen.{read_length, read_at}
 use Rattle.page.proofs.page_words.PageWords.speed.Goals as goal
