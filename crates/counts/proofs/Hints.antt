@@ -1,12 +1,11 @@
 -- The hint where the lowest free block may be.
-use Rattle.std.proofs.Common.{◌≡◌, ℕ, zero, suc, ◌+◌, ◌-◌, ◌<◌, ◌≤◌, min, max, Bool, true, false, cond, eqb, List, [], ◌∷◌, length, get_or, set, sym, refl, ap, ◌∙◌, subst, ⊎_elim, arith}
-use Rattle.std.proofs.lemmas.Bool.{lt-ltb, cases_eq, cases_lt, eq-eqb, ne_eqb}
-use Rattle.std.proofs.lemmas.List.{get_or-set_same, get_or-set_other}
+use Rattle.std.proofs.Common.{◌≡◌, ℕ, zero, suc, ◌+◌, ◌-◌, ◌<◌, ◌≤◌, min, max, Bool, true, false, cond, eqb, List, length, get_or, set, sym, ap, ◌∙◌, subst, ⊎_elim, arith}
+use Rattle.std.proofs.lemmas.Bool.{lt-ltb, cases_eq, cases_lt}
+use Rattle.std.proofs.lemmas.List.{get_or-set_other}
 use Rattle.counts.specs.Counts.{spare, free_blocks, add_all, opened}
-use Rattle.counts.specs.Keeping.{retained}
 use Rattle.counts.specs.Hint.{Taken, TakenBut}
 use Rattle.counts.proofs.Granting.{spare_none}
-use Rattle.counts.proofs.Opens.{add_ge, add_all_ge}
+use Rattle.counts.proofs.Opens.{add_all_ge}
 
 pub start : (cs : List ℕ) → Taken 2 cs
 start cs = record { slots = omega arith; all = λ b l h. absurd (omega (arith, l, h)) }
