@@ -29,6 +29,9 @@ read_at ws i h =
     let b : get_or (drop 2 ws) (2 * i + 1) 0 ≡ get_or ws (2 * i + 3) 0 = get_or-drop 2 ws (2 * i + 1) 0 ∙ ap (λ k. get_or ws k 0) (omega arith) in
     pairs_at (get_or ws 0 0 % 256) (drop 2 ws) i (omega (arith, read_length ws)) ∙ ap₂ (λ (x y : ℕ). (x % 268435456, y % 268435456)) a b
 
+pub pair_within : (ws : List ℕ) (b : Block) (i : ℕ) → read ws ≡ b → get_or ws 0 0 % 256 ≤ 15 → i < length b.entries → 2 * i + 3 < 33
+pair_within ws b i e few h = omega (arith, h, few, read_length ws, ap (λ (b : Block). length b.entries) e)
+
 -- words in the front of a longer buffer are read as they are
 pairs_front : (n : ℕ) (xs zs : List ℕ) → 2 * n ≤ length xs → pairs n (xs ++ zs) ≡ pairs n xs
 pairs_front zero xs zs h = refl

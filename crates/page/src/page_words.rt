@@ -82,14 +82,23 @@ impl PageWords {
         (self.words[0] % 256) as usize
     }
 
+    // An entry: its speed or separator, and its payload.
+    fn entry(&self, i: usize) -> (u32, u32)
+        requires { i < length self.now.entries }
+        ensures is { result ≡ slice_index_or self.now.entries i (0, 0) }
+        ensures small { (result.0 < 268435456) × (result.1 < 268435456) }
+    {
+        let words = &self.words;
+        (payload(words[2 * i + 2]), payload(words[2 * i + 3]))
+    }
+
     // The speed or separator of an entry.
     pub fn speed(&self, i: usize) -> u32
         requires { i < length self.now.entries }
         ensures is { result ≡ (slice_index_or self.now.entries i (0, 0)).0 }
         ensures small { result < 268435456 }
     {
-        let words = &self.words;
-        payload(words[2 * i + 2])
+        self.entry(i).0
     }
 
     // The payload of an entry.
@@ -98,8 +107,7 @@ impl PageWords {
         ensures is { result ≡ (slice_index_or self.now.entries i (0, 0)).1 }
         ensures small { result < 268435456 }
     {
-        let words = &self.words;
-        payload(words[2 * i + 3])
+        self.entry(i).1
     }
 
     // The place of the entry that covers a speed: the last, or the first whose successor lies above the speed.

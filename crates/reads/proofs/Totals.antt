@@ -1,8 +1,5 @@
 -- Summaries of rows, joined in parts and taken row by row.
-use Rattle.std.proofs.Common.{◌≡◌, map, ℕ, List, [], ◌∷◌, ◌++◌, ℤ, sym, ap, ◌∙◌}
-use Rattle.std.specs.List.{fold}
-use Rattle.table.specs.declared.row.Row.{Row}
-use Rattle.table.specs.Rows.{pair_of}
+use Rattle.std.proofs.Common.{◌≡◌, ℕ, List, [], ◌∷◌, ◌++◌, ℤ, sym, ap, ◌∙◌}
 use Rattle.table.specs.Summary.{Summing}
 use Rattle.reads.specs.Summary.{summary_of}
 

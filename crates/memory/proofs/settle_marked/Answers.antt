@@ -1,5 +1,5 @@
 use Rattle.std.proofs.Common.{◌≡◌, ℕ, ◌+◌, ◌-◌, ◌*◌, ◌<◌, length, take, drop, ap, subst, ◌∙◌, arith}
-use Rattle.memory.proofs.Facts.{Persisting, persist_start, persist_step, persist_skip, persist_over, persist_end, persist_marks}
+use Rattle.memory.proofs.Facts.{Persisting, persist_step, persist_skip, persist_end, persist_marks}
 use Rattle.memory.proofs.settle_marked.Goals.{then-marks-block-gt0, else-marks-block-gt0}
 use Rattle.memory.proofs.settle_marked.Goals as goal
 
