@@ -1,5 +1,5 @@
 // A tree block as the words of its block, to be read: an entry is taken from its two words when it is asked for.
-ghost use Rattle.std.specs.Prelude.{◌≡◌, ℕ, suc, ◌<◌, ◌≤◌, true, is_some, length, Some, None, slice_index_or, if◌then◌else◌, []};
+ghost use Rattle.std.specs.Prelude.{◌≡◌, ℕ, suc, ◌<◌, ◌≤◌, true, is_some, length, Some, None, slice_index_or, if◌then◌else◌, [], false, MatchResult};
 ghost use Rattle.device.specs.Meaning.{reading};
 ghost use Rattle.page.specs.Block.{block_at, decode};
 ghost use Rattle.page.specs.Io.{Wide, ReadAs};
@@ -51,11 +51,12 @@ impl PageWords {
         device.read(block, &mut self.words[..width]).unwrap();
     }
 
-    // Reads a block that may hold a page; whether it does.
+    // Reads a block that may hold a page; whether it does. If not, an empty leaf is left.
     pub fn try_load<D: Device>(&mut self, device: &mut D, block: u32) -> Result<bool, DeviceFault>
         requires { Wide (D.Device.meaning device.old) }
         ensures same { D.Device.meaning device.new ≡ D.Device.meaning device.old }
         ensures answer { ReadAs (λ ws holds. decode ws ≡ (if holds then Some self.new else None)) (reading D.Device.code (D.Device.meaning device.old) block (D.Device.meaning device.old).width) result }
+        ensures left { MatchResult result (λ holds. holds ≡ false → self.new ≡ record { level = 0; entries = [] }) (λ _. self.new ≡ self.old) }
     {
         let width = device.width() as usize;
         device.read(block, &mut self.words[..width])?;
