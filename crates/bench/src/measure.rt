@@ -8,17 +8,24 @@ use model::Refusal;
 use std::alloc::Global;
 use std::time::Instant;
 use std::{fmt, io};
+use table::{Pair, Span};
 use volume::Volume;
 
-const BLOCKS: u32 = 4_096;
+pub(crate) const BLOCKS: u32 = 4_096;
 
-const WIDTH: u32 = 32;
+pub(crate) const WIDTH: u32 = 32;
 
 #[derive(Clone, Copy)]
-enum Call {
+pub(crate) enum Call {
     Get,
     At,
+    // The first eight rows from a speed on.
+    List,
+    // The lowest and the highest angle.
+    Summary,
     Put,
+    // A row removed and put again.
+    Remove,
     // A clone and its deletion.
     Clone,
 }
@@ -27,7 +34,12 @@ const CALLS: [Call; 4] = [Call::Get, Call::At, Call::Put, Call::Clone];
 
 impl Call {
     // Makes the call for the i-th time, on a clone of so many rows.
-    fn make<D: Device>(self, volume: &mut Volume<D>, rows: u32, i: u32) -> Result<(), Refusal> {
+    pub(crate) fn make<D: Device>(
+        self,
+        volume: &mut Volume<D>,
+        rows: u32,
+        i: u32,
+    ) -> Result<(), Refusal> {
         let speed = speed_of(i % rows.max(1));
         match self {
             Call::Get => {
@@ -38,7 +50,19 @@ impl Call {
                 volume.at(0, i % 10_000)?;
                 Ok(())
             },
+            Call::List => {
+                volume.list(0, speed, &mut [Pair::default(); 8])?;
+                Ok(())
+            },
+            Call::Summary => {
+                volume.summary::<Span>(0)?;
+                Ok(())
+            },
             Call::Put => volume.put(0, speed, angle_of(i)),
+            Call::Remove => {
+                volume.remove(0, speed)?;
+                volume.put(0, speed, angle_of(i))
+            },
             Call::Clone => {
                 volume.clone_to(0, 1)?;
                 volume.delete(1)
@@ -52,7 +76,10 @@ impl fmt::Display for Call {
         match self {
             Call::Get => write!(f, "get"),
             Call::At => write!(f, "at"),
+            Call::List => write!(f, "list"),
+            Call::Summary => write!(f, "summary"),
             Call::Put => write!(f, "put"),
+            Call::Remove => write!(f, "remove, put"),
             Call::Clone => write!(f, "clone, delete"),
         }
     }
@@ -72,7 +99,7 @@ fn angle_of(i: u32) -> i32 {
 }
 
 // Mounts the volume that a device holds.
-fn mount<D: Device + Drop>(heap: Global, device: Tally<D>) -> anyhow::Result<Volume<Tally<D>>> {
+pub(crate) fn mount<D: Device + Drop>(heap: Global, device: D) -> anyhow::Result<Volume<D>> {
     match Volume::mount(heap, device) {
         Ok(volume) => Ok(volume),
         Err((_, refusal)) => Err(anyhow!("the volume does not mount: {refusal}")),
@@ -80,7 +107,7 @@ fn mount<D: Device + Drop>(heap: Global, device: Tally<D>) -> anyhow::Result<Vol
 }
 
 // A committed volume whose clone 0 has so many rows.
-fn fill<D: Device + Drop>(heap: Global, device: Tally<D>, rows: u32) -> anyhow::Result<Tally<D>> {
+pub(crate) fn fill<D: Device + Drop>(heap: Global, device: D, rows: u32) -> anyhow::Result<D> {
     let Ok(mut volume) = Volume::format(heap, device) else {
         return Err(anyhow!("the memory cannot be formatted"));
     };
@@ -88,10 +115,15 @@ fn fill<D: Device + Drop>(heap: Global, device: Tally<D>, rows: u32) -> anyhow::
     for i in 0..rows {
         volume.put(0, speed_of(i), angle_of(i))?;
     }
-    let Ok(sealed) = volume.seal() else {
-        return Err(anyhow!("the volume is not sealed"));
-    };
-    Ok(sealed.finish().into_device())
+    Ok(commit(volume)?.into_device())
+}
+
+// Commits what a volume holds.
+pub(crate) fn commit<D: Device + Drop>(volume: Volume<D>) -> anyhow::Result<Volume<D>> {
+    match volume.seal() {
+        Ok(sealed) => Ok(sealed.finish()),
+        Err((_, refusal)) => Err(anyhow!("the volume is not sealed: {refusal}")),
+    }
 }
 
 // A measurement on a clone of so many rows.

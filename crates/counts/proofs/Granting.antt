@@ -1,8 +1,7 @@
 -- The free blocks, as they are found one after the other.
-use Rattle.std.proofs.Common.{◌≡◌, ℕ, zero, suc, ◌+◌, ◌-◌, ◌<◌, ◌≤◌, List, [], ◌∷◌, ◌++◌, length, get_or, drop, sym, refl, ap, ◌∙◌, ap₂, arith}
-use Rattle.std.specs.List.{AllWithin, HoldsAt}
+use Rattle.std.proofs.Common.{◌≡◌, ℕ, zero, suc, ◌+◌, ◌-◌, ◌<◌, ◌≤◌, List, [], ◌∷◌, ◌++◌, length, get_or, sym, refl, ap, ◌∙◌, ap₂, arith}
 use Rattle.std.proofs.lemmas.Bool.{lt-ltb, le-ltb}
-use Rattle.std.proofs.lemmas.List.{append_assoc, append-nil, get_or-drop, length-drop}
+use Rattle.std.proofs.lemmas.List.{append_assoc, append-nil}
 use Rattle.counts.specs.Counts.{spare, free_blocks}
 
 module _ (cs : List ℕ) where
@@ -20,28 +19,6 @@ module _ (cs : List ℕ) where
   pub spare_none : (k b : ℕ) → ((i : ℕ) → b ≤ i → i < b + k → 0 < get_or cs i 0) → spare k b cs ≡ []
   spare_none zero b all = refl
   spare_none (suc k) b all = rw (lt-ltb 0 (get_or cs b 0) (all b (omega arith) (omega arith))) (spare_none k (suc b) (λ i l m. all i (omega arith) (omega arith)))
-
-  -- past the end there is none
-  pub found_past : (xs : List ℕ) (next : ℕ) → length cs < next → free_blocks cs ≡ xs ++ spare (length cs - next) next cs → free_blocks cs ≡ xs
-  found_past xs next past these =
-      let n : length cs - next ≡ 0 = omega arith in
-      these ∙ ap (λ k. xs ++ spare k next cs) n ∙ append-nil xs
-
-  -- the counts from `next` on: what a search for a 0 there says of the free blocks, after those found before
-  module _ (xs : List ℕ) (next : ℕ) (within : next ≤ length cs) (these : free_blocks cs ≡ xs ++ spare (length cs - next) next cs) where
-    used : (j : ℕ) → AllWithin (λ c. 0 < c) (drop next cs) 0 j → (i : ℕ) → next ≤ i → i < next + j → 0 < get_or cs i 0
-    used j h i l m = let n : next + (i - next) ≡ i = omega arith in omega (arith, h (i - next) 0 (omega arith) (omega arith), get_or-drop next cs (i - next) 0, ap (λ (x : ℕ). get_or cs x 0) n)
-
-    pub found_next : (j : ℕ) → (j < length (drop next cs)) × HoldsAt (λ c. c ≡ 0) (drop next cs) j × AllWithin (λ c. 0 < c) (drop next cs) 0 j
-        → free_blocks cs ≡ (xs ++ (next + j) ∷ []) ++ spare (length cs - (next + j + 1)) (next + j + 1) cs
-    found_next j h =
-        these
-        ∙ ap (λ r. xs ++ r) (spare_first (length cs - next) next j (next + j) refl (omega (arith, h.0, length-drop next cs)) (used j h.2) (sym (get_or-drop next cs j 0) ∙ h.1 0)
-        ∙ ap (λ n. (next + j) ∷ spare n (next + j + 1) cs) (omega arith)) ∙ sym (append_assoc xs ((next + j) ∷ []) (spare (length cs - (next + j + 1)) (next + j + 1) cs))
-
-    pub found_none : AllWithin (λ c. 0 < c) (drop next cs) 0 (length (drop next cs)) → free_blocks cs ≡ xs
-    found_none h =
-        these ∙ ap (λ r. xs ++ r) (spare_none (length cs - next) next (λ i l m. used (length (drop next cs)) h i l (omega (arith, length-drop next cs)))) ∙ append-nil xs
 
   -- a search for a free block from `next` on came to `at`
   module _ (xs : List ℕ) (next at : ℕ) (over : (i : ℕ) → next ≤ i → i < at → 0 < get_or cs i 0) (these : free_blocks cs ≡ xs ++ spare (length cs - next) next cs) where

@@ -3,10 +3,9 @@ use Rattle.std.proofs.Common.{◌≡◌, ℕ, zero, suc, ◌+◌, ◌-◌, ◌<�
 use Rattle.std.proofs.lemmas.Bool.{lt-ltb, cases_eq, cases_lt}
 use Rattle.std.proofs.lemmas.List.{get_or-set_same, get_or-set_other}
 use Rattle.counts.specs.Counts.{spare, free_blocks, add_all, opened}
-use Rattle.counts.specs.Keeping.{retained}
 use Rattle.counts.specs.Hint.{Taken, TakenBut}
 use Rattle.counts.proofs.Granting.{spare_none}
-use Rattle.counts.proofs.Opens.{add_ge, add_all_ge}
+use Rattle.counts.proofs.Opens.{add_all_ge}
 
 pub start : (cs : List ℕ) → Taken 2 cs
 start cs = record { slots = omega arith; all = λ b l h. absurd (omega (arith, l, h)) }
@@ -49,24 +48,12 @@ lowered cs x n m e t = record {
   all = λ b l h. t.others b l (omega (arith, h, e)) (λ q. absurd (omega (arith, h, e, q, l)));
 }
 
-pub unlowered : (cs : List ℕ) (x n : ℕ) → 0 < get_or cs x 0 → TakenBut x n cs → Taken n cs
-unlowered cs x n h t = record {
-  slots = t.slots;
-  all = λ b l m. ⊎_elim (λ (e : b ≡ x). subst (λ (y : ℕ). 0 < get_or cs y 0) (sym e) h) (λ ne. t.others b l m ne) (cases_eq b x);
-}
-
 -- what the moves do to the other blocks
 pub after_set : (cs : List ℕ) (x v n : ℕ) → Taken n cs → TakenBut x n (set cs x v)
 after_set cs x v n t = record {
   slots = t.slots;
   others = λ b l m ne. omega (arith, get_or-set_other cs x b v 0 ne, t.all b l m);
 }
-
-pub after_link : (cs : List ℕ) (x n : ℕ) → x < length cs → Taken n cs → Taken n (set cs x 1)
-after_link cs x n h t = unlowered (set cs x 1) x n (omega (arith, get_or-set_same cs x 1 0 h)) (after_set cs x 1 n t)
-
-pub after_retain : (cs : List ℕ) (x n : ℕ) → Taken n cs → Taken n (retained x cs)
-after_retain cs x n t = record { slots = t.slots; all = λ b l m. omega (arith, add_ge cs x b, t.all b l m) }
 
 opened_by : (ks : List ℕ) (x : ℕ) (cs : List ℕ) (n : ℕ) (one : Bool) → Taken n cs → TakenBut x n (cond one (set cs x 0) (set (add_all ks cs) x (get_or (add_all ks cs) x 0 - 1)))
 opened_by ks x cs n true t = after_set cs x 0 n t

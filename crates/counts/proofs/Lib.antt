@@ -1,7 +1,6 @@
 pub mod Parents
 pub mod Steps
 pub mod Opens
-pub mod Reading
 pub mod Drops
 pub mod Granting
 pub mod Linking

@@ -1,5 +1,5 @@
 // A device whose tree blocks are counted by their references.
-ghost use Rattle.std.specs.Prelude.{◌≡◌, ℕ, ◌+◌, ◌-◌, ◌<◌, ◌≤◌, ◌==◌, true, [], ◌∷◌, length, is_some, Some, None, if◌then◌else◌, slice_index};
+ghost use Rattle.std.specs.Prelude.{◌≡◌, ℕ, ◌+◌, ◌-◌, ◌<◌, ◌≤◌, ◌==◌, true, false, [], ◌∷◌, length, is_some, Some, None, if◌then◌else◌, MatchResult, slice_index};
 ghost use Rattle.std.specs.Option.{option_map};
 ghost use Rattle.device.specs.Meaning.{blocks_of, reading, written, flushed};
 ghost use Rattle.page.specs.Block.{block_at, decode};
@@ -140,10 +140,11 @@ impl<D: Device> Store<D> {
         page.load(&mut self.device, block);
     }
 
-    // Reads a block that may hold a page, over what was read before; whether it does.
+    // Reads a block that may hold a page, over what was read before; whether it does. If not, an empty leaf is left.
     pub fn try_load(&mut self, block: u32, page: &mut PageWords) -> Result<bool, DeviceFault>
         ensures kept { self.new ≡ self.old }
         ensures answer { ReadAs (λ ws holds. decode ws ≡ (if holds then Some page.new else None)) (reading D.Device.code self.old.0 block self.old.0.width) result }
+        ensures left { MatchResult result (λ holds. holds ≡ false → page.new ≡ record { level = 0; entries = [] }) (λ _. page.new ≡ page.old) }
     {
         page.try_load(&mut self.device, block)
     }

@@ -8,7 +8,6 @@ use Rattle.device.specs.Meaning.{Meaning, Content, words, damaged, blocks_of, cu
 use Rattle.device.proofs.Calls.{reading_at}
 use Rattle.page.specs.Io.{ReadAs}
 use Rattle.page.specs.Block.{Block, decode, block_in, block_at}
-use Rattle.model.specs.declared.refusal.Refusal.{Refusal}
 use Rattle.model.specs.declared.refusal.Refusal.TheVariants.{Malformed}
 use Rattle.model.specs.TreeBlocks.{entries_in}
 use Rattle.model.specs.Walk.{Fault, well_made, if_made, in_block, in_content, fault_below, fault_at}

@@ -1,7 +1,7 @@
 -- A list that is gone through, taken apart at a place.
-use Rattle.std.proofs.Common.{◌≡◌, ℕ, zero, suc, ◌+◌, ◌<◌, ◌≤◌, Bool, true, List, [], ◌∷◌, map, length, get_or, drop, sym, refl, ap, ◌∙◌}
+use Rattle.std.proofs.Common.{◌≡◌, ℕ, zero, suc, ◌+◌, ◌<◌, Bool, true, List, [], ◌∷◌, map, length, get_or, drop, sym, refl, ap, ◌∙◌}
 use Rattle.std.proofs.lemmas.Bool.{and_parts}
-use Rattle.std.proofs.lemmas.List.{drop_more, drop_all, drop-map}
+use Rattle.std.proofs.lemmas.List.{drop_more, drop-map}
 use Rattle.page.specs.Slot.{every}
 
 module _ {A B : Type 0} (f : A → B) (xs : List A) (i : ℕ) where

@@ -1,11 +1,10 @@
 -- The steps of the walk.
-use Rattle.std.proofs.Common.{◌≡◌, ℕ, zero, suc, ◌+◌, ◌-◌, ◌<◌, ◌≤◌, Bool, true, false, cond, ◌&&◌, eqb, ltb, leb, List, [], ◌∷◌, map, length, get_or, drop, Some, None, Ok, Err, Option, Result, sym, refl, ap, ◌∙◌, subst, ap₂, arith}
+use Rattle.std.proofs.Common.{◌≡◌, ℕ, zero, suc, ◌+◌, ◌-◌, ◌<◌, ◌≤◌, Bool, true, false, cond, ◌&&◌, eqb, ltb, leb, List, [], ◌∷◌, length, get_or, drop, Some, None, Ok, Err, Option, Result, sym, refl, ap, ◌∙◌, subst, ap₂, arith}
 use Rattle.std.proofs.lemmas.Bool.{and_parts, ltb-true, eqb-true}
 use Rattle.std.specs.Option.{option_or}
 use Rattle.device.specs.Meaning.{Meaning, Content, blocks_of, current_at}
 use Rattle.std.proofs.lemmas.List.{drop_more}
 use Rattle.page.specs.Block.{Block, block_at, kids_of, children}
-use Rattle.page.specs.Slot.{every}
 use Rattle.tree.specs.Layout.{next}
 use Rattle.counts.specs.Counts.{occ}
 use Rattle.counts.specs.Keeping.{retained}

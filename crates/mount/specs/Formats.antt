@@ -1,5 +1,5 @@
 -- What format promises.
-use Rattle.std.specs.Prelude.{◌≡◌, true, cond, ◌⊎◌, Some, None, Option, nat_lt}
+use Rattle.std.specs.Prelude.{◌≡◌, cond, ◌⊎◌, Some, None, Option, nat_lt}
 use Rattle.device.specs.Meaning.{Meaning, blocks_of}
 use Rattle.device.specs.Cuts.{replay}
 use Rattle.model.specs.declared.refusal.Refusal.{Refusal}

@@ -1,5 +1,5 @@
 -- What mount promises.
-use Rattle.std.specs.Prelude.{◌≡◌, ℕ, suc, ◌%◌, true, false, ◌⊎◌, length, replicate, Ok, Err, Option}
+use Rattle.std.specs.Prelude.{◌≡◌, ℕ, suc, ◌%◌, false, ◌⊎◌, length, replicate, Ok, Err}
 use Rattle.device.specs.Meaning.{Meaning, Lawful, words, written, blocks_of, current_at}
 use Rattle.page.specs.Block.{block_at}
 use Rattle.page.specs.Slot.{Table, slot_words, SlotFits}

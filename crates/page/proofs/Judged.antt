@@ -1,14 +1,13 @@
 -- Words judged where they lie: they are a page's where each is what the page that is read of them has in its place.
-use Rattle.std.proofs.Common.{◌≡◌, ℕ, zero, suc, ◌+◌, ◌-◌, ◌*◌, ◌/◌, ◌%◌, ◌<◌, ◌≤◌, Bool, true, false, cond, eqb, List, [], ◌∷◌, ◌++◌, length, get_or, drop, replicate, is_some, Some, None, sym, refl, ap, ◌∙◌, ⊎_elim, arith, length-append, length-drop}
+use Rattle.std.proofs.Common.{◌≡◌, ℕ, zero, suc, ◌+◌, ◌-◌, ◌*◌, ◌/◌, ◌%◌, ◌<◌, ◌≤◌, Bool, true, false, cond, eqb, List, [], ◌∷◌, ◌++◌, length, get_or, drop, replicate, is_some, Some, None, sym, refl, ap, ◌∙◌, ⊎_elim, arith, length-append}
 use lib.ListN.{length-replicate}
 use Rattle.std.specs.List.{list_all}
 use Rattle.std.proofs.lemmas.Bool.{false≢true, eq-eqb, eqb-true, and_from, and_parts, cases_eq, cases_lt}
 use Rattle.std.proofs.lemmas.List.{ext_get_or, get_or-drop}
 use Rattle.word.specs.Words.{payload_of, word_of}
-use Rattle.page.specs.Block.{Block, value_kind, header_of, flat, read, encode, same, decode}
+use Rattle.page.specs.Block.{value_kind, header_of, flat, read, encode, same, decode}
 use Rattle.page.proofs.Words.{same_eq, same_refl, flat_length, decode_by}
 use Rattle.page.proofs.Seen.{read_length, read_at}
-use Rattle.page.proofs.Slots.{every_at}
 
 -- the words of pair k are a speed and a value of a block of this level
 pub record Pair (ws : List ℕ) (level k : ℕ) : Type 0 where

@@ -1,5 +1,5 @@
 -- Words that are read as a tree block, entry by entry.
-use Rattle.std.proofs.Common.{◌≡◌, ℕ, zero, suc, ◌+◌, ◌*◌, ◌/◌, ◌%◌, ◌<◌, ◌≤◌, Bool, true, false, cond, ◌&&◌, ltb, leb, eqb, List, [], ◌∷◌, ◌++◌, length, get_or, take, drop, is_some, Some, None, Ok, Err, Option, Result, sym, refl, ap, ◌∙◌, ap₂, subst, ⊎_elim, arith}
+use Rattle.std.proofs.Common.{◌≡◌, ℕ, zero, suc, ◌+◌, ◌*◌, ◌/◌, ◌%◌, ◌<◌, ◌≤◌, Bool, true, false, cond, ◌&&◌, ltb, leb, List, [], ◌∷◌, ◌++◌, length, get_or, take, drop, is_some, Some, None, Ok, Err, Option, Result, sym, refl, ap, ◌∙◌, ap₂, subst, ⊎_elim, arith}
 use Rattle.std.proofs.lemmas.List.{get_or-drop, get_or_past, length-take-le, length-append}
 use Rattle.std.proofs.lemmas.Bool.{cases_lt, false≢true, and_parts, leb-true, ltb-true, eq-eqb, ne_eqb}
 use Rattle.device.specs.declared.DeviceFault.{DeviceFault}
@@ -28,6 +28,9 @@ read_at ws i h =
     let a : get_or (drop 2 ws) (2 * i) 0 ≡ get_or ws (2 * i + 2) 0 = get_or-drop 2 ws (2 * i) 0 ∙ ap (λ k. get_or ws k 0) (omega arith) in
     let b : get_or (drop 2 ws) (2 * i + 1) 0 ≡ get_or ws (2 * i + 3) 0 = get_or-drop 2 ws (2 * i + 1) 0 ∙ ap (λ k. get_or ws k 0) (omega arith) in
     pairs_at (get_or ws 0 0 % 256) (drop 2 ws) i (omega (arith, read_length ws)) ∙ ap₂ (λ (x y : ℕ). (x % 268435456, y % 268435456)) a b
+
+pub pair_within : (ws : List ℕ) (b : Block) (i : ℕ) → read ws ≡ b → get_or ws 0 0 % 256 ≤ 15 → i < length b.entries → 2 * i + 3 < 33
+pair_within ws b i e few h = omega (arith, h, few, read_length ws, ap (λ (b : Block). length b.entries) e)
 
 -- words in the front of a longer buffer are read as they are
 pairs_front : (n : ℕ) (xs zs : List ℕ) → 2 * n ≤ length xs → pairs n (xs ++ zs) ≡ pairs n xs

@@ -1,10 +1,9 @@
 -- Words of tree blocks, written and read in order.
-use Rattle.std.proofs.Common.{◌≡◌, ℕ, zero, suc, ◌+◌, ◌-◌, ◌*◌, ◌/◌, ◌%◌, ◌<◌, ◌≤◌, Bool, true, false, cond, ◌&&◌, ltb, leb, List, [], ◌∷◌, ◌++◌, map, length, get_or, take, drop, set, replicate, Some, None, sym, refl, ap, ◌∙◌, ap₂, add-one, arith, length-append}
-use Rattle.std.proofs.lemmas.List.{take_more, map_push, append_assoc, set_at, drop_at, drop-drop, get_or-drop, get_or-take, get_or_append_left, length-take-le}
+use Rattle.std.proofs.Common.{◌≡◌, ℕ, zero, suc, ◌+◌, ◌-◌, ◌*◌, ◌/◌, ◌%◌, ◌<◌, ◌≤◌, Bool, true, cond, ◌&&◌, ltb, leb, List, [], ◌∷◌, ◌++◌, length, get_or, take, drop, set, replicate, Some, None, sym, refl, ap, ◌∙◌, arith, length-append}
+use Rattle.std.proofs.lemmas.List.{take_more, append_assoc, set_at, length-take-le}
 use Rattle.std.proofs.lemmas.Slice.Eq.{bytes_eq-Decides}
 use Rattle.std.proofs.lemmas.Bool.{and_from, le-leb, lt-ltb}
-use Rattle.std.specs.Option.{option_map}
-use Rattle.word.specs.Words.{payload_of, word_of}
+use Rattle.word.specs.Words.{word_of}
 use Rattle.page.specs.Block.{Block, flat, pairs, encode, read, same, decode}
 
 pub flat_push : (k : ℕ) (es : List (ℕ × ℕ)) (e : ℕ × ℕ) → flat k (es ++ e ∷ []) ≡ flat k es ++ word_of 3 e.0 ∷ word_of k e.1 ∷ []
@@ -44,32 +43,6 @@ pub pairs_length : (n : ℕ) (ws : List ℕ) → length (pairs n ws) ≡ n
 pairs_length zero ws = refl
 pairs_length (suc n) ws = ap suc (pairs_length n (drop 2 ws))
 
-pub pairs_push : (n : ℕ) (ws : List ℕ) → pairs (suc n) ws ≡ pairs n ws ++ (get_or ws (2 * n) 0 % 268435456, get_or ws (2 * n + 1) 0 % 268435456) ∷ []
-pairs_push zero ws = refl
-pairs_push (suc n) ws =
-    let a : get_or (drop 2 ws) (2 * n) 0 ≡ get_or ws (2 * suc n) 0 = get_or-drop 2 ws (2 * n) 0 ∙ ap (λ k. get_or ws k 0) (omega arith) in
-    let b : get_or (drop 2 ws) (2 * n + 1) 0 ≡ get_or ws (2 * suc n + 1) 0 = get_or-drop 2 ws (2 * n + 1) 0 ∙ ap (λ k. get_or ws k 0) (omega arith) in
-    ap (λ r. (get_or ws 0 0 % 268435456, get_or ws 1 0 % 268435456) ∷ r)
-    (pairs_push n (drop 2 ws)
-    ∙ ap (λ x. pairs n (drop 2 ws) ++ (x % 268435456, get_or (drop 2 ws) (2 * n + 1) 0 % 268435456) ∷ []) a
-    ∙ ap (λ x. pairs n (drop 2 ws) ++ (get_or ws (2 * suc n) 0 % 268435456, x % 268435456) ∷ []) b)
-
--- One entry read, from the front of the pairs that are left.
-pub dec_step : {X : Type 0} (f : X → ℕ × ℕ) (items new : List X) (e : X) (ws pair rest more : List ℕ) (n i : ℕ) → length items ≡ i → i < n → 2 * n + 2 ≤ length ws
-    → rest ≡ drop (2 * i) (take (2 * n) (drop 2 ws)) → rest ≡ pair ++ more → length pair ≡ 2 → f e ≡ (payload_of (get_or pair 0 0), payload_of (get_or pair 1 0)) → new ≡ items ++ e ∷ []
-    → map f items ≡ pairs i (drop 2 ws) → map f new ≡ pairs (i + 1) (drop 2 ws)
-dec_step f items new e ws pair rest more n i k h l left front two fe ne inv =
-    let at : (k j : ℕ) → k < 2 → 2 * i + k ≡ j → get_or pair k 0 ≡ get_or (drop 2 ws) j 0
-    = λ k j q p. sym (get_or_append_left pair more 0 k (omega arith)) ∙ ap (λ xs. get_or xs k 0) (sym front ∙ left) ∙ get_or-drop (2 * i) (take (2 * n) (drop 2 ws)) k 0
-    ∙ ap (λ m. get_or (take (2 * n) (drop 2 ws)) m 0) p ∙ get_or-take (2 * n) (drop 2 ws) j 0 (omega arith) in
-    ap (map f) ne ∙ map_push f items e ∙ ap₂ (λ (xs : List (ℕ × ℕ)) (p : ℕ × ℕ). xs ++ p ∷ []) inv fe
-    ∙ ap₂ (λ (x y : ℕ). pairs i (drop 2 ws) ++ (payload_of x, payload_of y) ∷ []) (at 0 (2 * i) (omega arith) (omega arith)) (at 1 (2 * i + 1) (omega arith) refl)
-    ∙ sym (pairs_push i (drop 2 ws)) ∙ ap (λ m. pairs m (drop 2 ws)) (sym (add-one i))
-
-pub left_step : (xs pair more : List ℕ) (i : ℕ) → drop (2 * i) xs ≡ pair ++ more → length pair ≡ 2 → more ≡ drop (2 * (i + 1)) xs
-left_step xs pair more i e two =
-    sym (drop_at pair more 2 two) ∙ ap (drop 2) (sym e) ∙ drop-drop 2 (2 * i) xs ∙ ap (λ n. drop n xs) (omega arith)
-
 fits_yes : (n l : ℕ) (ws : List ℕ) → n ≤ 15 → l ≤ 4 → (leb (length (pairs n ws)) 15 && ltb l 5) ≡ true
 fits_yes n l ws a b = and_from (leb (length (pairs n ws)) 15) (ltb l 5) (le-leb (length (pairs n ws)) 15 (omega (arith, pairs_length n ws))) (lt-ltb l 5 (omega arith))
 
@@ -79,8 +52,3 @@ decode_by ws n b h l e t =
     ap (λ d. cond d (Some n) None) t
     ∙ ap (λ m. cond (same ws (encode (length ws) m)) (Some m) None) e
     ∙ ap (λ d. cond (d && same ws (encode (length ws) (read ws))) (Some (read ws)) None) (sym (fits_yes (get_or ws 0 0 % 256) (get_or ws 0 0 % 268435456 / 256) (drop 2 ws) h l))
-
--- what is held, as what f makes of it
-pub held_by : {T A : Type 0} (f : T → A) (x : T) (b : Bool) → option_map f (cond b (Some x) None) ≡ cond b (Some (f x)) None
-held_by f x true = refl
-held_by f x false = refl

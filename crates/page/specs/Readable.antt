@@ -1,5 +1,5 @@
 -- Words that are read as a tree block.
-use Rattle.std.specs.Prelude.{◌≡◌, ℕ, ◌<◌, ◌≤◌, ◌/◌, ◌%◌, List, length, slice_index}
+use Rattle.std.specs.Prelude.{◌≡◌, ℕ, ◌≤◌, ◌/◌, ◌%◌, List, length, slice_index}
 use Rattle.word.specs.Words.{payload_of}
 
 -- forty words, the first of which says few entries and a low level

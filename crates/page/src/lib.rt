@@ -7,9 +7,9 @@ ghost use Rattle.page.specs.Slot.{FormsExact, SlotsExact};
 
 mod codec;
 mod edits;
-pub mod page_words;
 pub mod io;
 pub mod page;
+pub mod page_words;
 pub mod roots;
 mod slot;
 pub mod stored;

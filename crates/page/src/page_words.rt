@@ -1,5 +1,5 @@
 // A tree block as the words of its block, to be read: an entry is taken from its two words when it is asked for.
-ghost use Rattle.std.specs.Prelude.{◌≡◌, ℕ, suc, ◌<◌, ◌≤◌, true, is_some, length, Some, None, slice_index_or, if◌then◌else◌, []};
+ghost use Rattle.std.specs.Prelude.{◌≡◌, ℕ, suc, ◌<◌, ◌≤◌, true, is_some, length, Some, None, slice_index_or, if◌then◌else◌, [], false, MatchResult};
 ghost use Rattle.device.specs.Meaning.{reading};
 ghost use Rattle.page.specs.Block.{shown_block, decode};
 ghost use Rattle.page.specs.Io.{Broad, ReadAs};
@@ -52,13 +52,14 @@ impl PageWords {
         reader.read(block, &mut self.words[..width]).unwrap();
     }
 
-    // Reads a block that may hold a page; whether it does.
+    // Reads a block that may hold a page; whether it does. If not, an empty leaf is left.
     pub fn try_load<R: Reader>(&mut self, reader: &mut R, block: u32) -> Result<bool, DeviceFault>
         requires { Broad (R.Reader.shown reader.old) }
         ensures same { R.Reader.shown reader.new ≡ R.Reader.shown reader.old }
         ensures rest { R.Reader.rest reader.new ≡ R.Reader.rest reader.old }
         ensures answer { ReadAs (λ ws holds. decode ws ≡ (if holds then Some self.new else None))
             (reading R.Reader.code (R.Reader.shown reader.old) block (R.Reader.shown reader.old).width) result }
+        ensures left { MatchResult result (λ holds. holds ≡ false → self.new ≡ record { level = 0; entries = [] }) (λ _. self.new ≡ self.old) }
     {
         let width = reader.width() as usize;
         reader.read(block, &mut self.words[..width])?;
@@ -85,14 +86,23 @@ impl PageWords {
         (self.words[0] % 256) as usize
     }
 
+    // An entry: its speed or separator, and its payload.
+    fn entry(&self, i: usize) -> (u32, u32)
+        requires { i < length self.now.entries }
+        ensures is { result ≡ slice_index_or self.now.entries i (0, 0) }
+        ensures small { (result.0 < 268435456) × (result.1 < 268435456) }
+    {
+        let words = &self.words;
+        (payload(words[2 * i + 2]), payload(words[2 * i + 3]))
+    }
+
     // The speed or separator of an entry.
     pub fn speed(&self, i: usize) -> u32
         requires { i < length self.now.entries }
         ensures is { result ≡ (slice_index_or self.now.entries i (0, 0)).0 }
         ensures small { result < 268435456 }
     {
-        let words = &self.words;
-        payload(words[2 * i + 2])
+        self.entry(i).0
     }
 
     // The payload of an entry.
@@ -101,8 +111,7 @@ impl PageWords {
         ensures is { result ≡ (slice_index_or self.now.entries i (0, 0)).1 }
         ensures small { result < 268435456 }
     {
-        let words = &self.words;
-        payload(words[2 * i + 3])
+        self.entry(i).1
     }
 
     // The place of the entry that covers a speed: the last, or the first whose successor lies above the speed.

@@ -1,13 +1,12 @@
 -- A block of a sound tree, as its words hold it.
-use Rattle.std.proofs.Common.{◌≡◌, ℕ, zero, suc, ◌+◌, ◌<◌, ◌≤◌, true, List, [], ◌∷◌, ◌++◌, length, get_or, take, drop, is_some, ℤ, Some, add-one, sym, refl, ap, ◌∙◌, subst, ap₂, not-suc-le-zero, arith}
-use Rattle.std.proofs.lemmas.List.{take_more, take_all}
+use Rattle.std.proofs.Common.{◌≡◌, ℕ, zero, suc, ◌+◌, ◌<◌, ◌≤◌, true, List, [], ◌∷◌, ◌++◌, length, get_or, take, is_some, Some, add-one, sym, refl, ap, ◌∙◌, subst, not-suc-le-zero, arith}
+use Rattle.std.proofs.lemmas.List.{take_more}
 use Rattle.std.proofs.lemmas.Option.{same_Some}
 use Rattle.device.specs.Meaning.{Meaning, Content, current_at}
 use Rattle.page.specs.Block.{Block, block_at, block_in, level_of}
 use Rattle.tree.specs.Node.{map_e}
 use Rattle.tree.proofs.Over.{map-append}
-use Rattle.table.specs.declared.row.Row.{Row}
-use Rattle.table.specs.Rows.{pair_of, angle_of}
+use Rattle.table.specs.Rows.{angle_of}
 use Rattle.model.specs.TreeBlocks.{Each}
 use Rattle.reads.specs.Sound.{Valid, rows_in, rows_at, Sound, SoundAt, FullAt}
 use Rattle.reads.specs.Lists.{due}

@@ -1,20 +1,14 @@
 -- A descent, block by block.
-use Rattle.std.proofs.Common.{◌≡◌, ℕ, zero, suc, ◌+◌, ◌<◌, ◌≤◌, ◌⊎◌, List, [], ◌∷◌, ◌++◌, length, take, drop, ℤ, Some, None, Option, inl, inr, sym, refl, ap, ◌∙◌, subst, not-suc-le-zero, arith, append_assoc, append-nil, length-drop}
+use Rattle.std.proofs.Common.{◌≡◌, ℕ, zero, suc, ◌<◌, ◌≤◌, ◌⊎◌, List, [], ◌∷◌, ◌++◌, length, take, drop, Some, None, Option, inl, inr, sym, refl, ap, ◌∙◌, subst, not-suc-le-zero, arith, append_assoc, append-nil}
 use Rattle.std.proofs.ByRecursion.{All-append}
-use Rattle.std.proofs.lemmas.List.{get_or-drop}
 use Rattle.std.proofs.lemmas.Bool.{cases_lt}
 use Rattle.std.proofs.lemmas.Option.{same_Some}
 use Rattle.std.specs.Option.{option_or}
 use Rattle.device.specs.Meaning.{Content}
 use Rattle.page.specs.Block.{Block, block_in, level_of}
-use Rattle.table.specs.Rows.{angle_of}
 use Rattle.model.specs.TreeBlocks.{entries_in, Each}
 use Rattle.reads.specs.Sound.{Valid, rows_in, rows_at, Sound, FullAt}
 use Rattle.reads.specs.Descent.{child, child_before, Ends, Begins, Found}
-use Rattle.reads.specs.Lists.{due}
-use Rattle.reads.proofs.Written.{due_append, due_below}
-use Rattle.tree.specs.Node.{map_e}
-use Rattle.tree.proofs.Over.{map-append}
 use Rattle.reads.proofs.Children as kids
 use Rattle.reads.proofs.Children.{inside, key, to, Kid, leaf, split, rows_more, rows_split, rows_before, rows_after}
 

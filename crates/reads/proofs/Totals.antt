@@ -1,8 +1,5 @@
 -- Summaries of rows, joined in parts and taken row by row.
-use Rattle.std.proofs.Common.{◌≡◌, map, ℕ, List, [], ◌∷◌, ◌++◌, ℤ, sym, ap, ◌∙◌}
-use Rattle.std.specs.List.{fold}
-use Rattle.table.specs.declared.row.Row.{Row}
-use Rattle.table.specs.Rows.{pair_of}
+use Rattle.std.proofs.Common.{◌≡◌, ℕ, List, [], ◌∷◌, ◌++◌, ℤ, sym, ap, ◌∙◌}
 use Rattle.table.specs.Summary.{Summing}
 use Rattle.reads.specs.Summary.{summary_of}
 
@@ -10,10 +7,6 @@ module _ {S : Type 0} (x : Summing S) (before : (u : S) → x.joined x.none u �
   pub summary-append : (rs ts : List (ℕ × ℤ)) → summary_of x (rs ++ ts) ≡ x.joined (summary_of x rs) (summary_of x ts)
   summary-append [] ts = sym (before (summary_of x ts))
   summary-append (e ∷ r) ts = ap (x.joined (x.value_of e.0 e.1)) (summary-append r ts) ∙ sym (assoc (x.value_of e.0 e.1) (summary_of x r) (summary_of x ts))
-
-  pub summary-fold : (rows : List Row) (u : S) → fold (λ (a : S) (r : Row). x.joined a (x.value_of r.speed r.angle)) u rows ≡ x.joined u (summary_of x (map pair_of rows))
-  summary-fold [] u = sym (after u)
-  summary-fold (r ∷ rs) u = summary-fold rs (x.joined u (x.value_of r.speed r.angle)) ∙ assoc u (x.value_of r.speed r.angle) (summary_of x (map pair_of rs))
 
   pub summary-push : (rs : List (ℕ × ℤ)) (s : ℕ) (a : ℤ) → summary_of x (rs ++ (s, a) ∷ []) ≡ x.joined (summary_of x rs) (x.value_of s a)
   summary-push rs s a = summary-append rs ((s, a) ∷ []) ∙ ap (x.joined (summary_of x rs)) (after (x.value_of s a))

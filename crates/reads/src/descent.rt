@@ -23,8 +23,16 @@ fn beside(page: &PageWords, i: usize) -> Sides
 {
     let last = page.len() - 1;
     Sides {
-        left: if i == 0 { None } else { Some(page.value(i - 1)) },
-        right: if i == last { None } else { Some(page.value(i + 1)) },
+        left: if i == 0 {
+            None
+        } else {
+            Some(page.value(i - 1))
+        },
+        right: if i == last {
+            None
+        } else {
+            Some(page.value(i + 1))
+        },
     }
 }
 

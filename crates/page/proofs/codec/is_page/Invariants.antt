@@ -1,4 +1,4 @@
-use Rattle.std.proofs.Common.{◌≡◌, ℕ, ◌<◌}
+use Rattle.std.proofs.Common.{ℕ, ◌<◌}
 use Rattle.page.proofs.Judged.{Pair}
 use Rattle.page.proofs.codec.is_page.Given as goal
 

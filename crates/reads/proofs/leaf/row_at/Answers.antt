@@ -1,6 +1,5 @@
-use Rattle.std.proofs.Common.{◌≡◌, ℕ, ◌<◌, ◌≤◌, get_or, ◌∙◌, ap₂, arith}
+use Rattle.std.proofs.Common.{ℕ, ◌∙◌, ap₂}
 use Rattle.table.specs.Rows.{angle_of}
-use Rattle.reads.proofs.Blocks.{valid_entry}
 use Rattle.reads.proofs.leaf.row_at.Goals as goal
 
 pub returns : goal.returns

@@ -1,17 +1,15 @@
-use Rattle.std.proofs.Common.{◌≡◌, ℕ, ◌+◌, ◌-◌, ◌<◌, ◌≤◌, List, [], ◌∷◌, ◌++◌, min, length, get_or, take, drop, ℤ, sym, refl, ap, ◌∙◌, subst, ap₂, arith}
+use Rattle.std.proofs.Common.{◌≡◌, ℕ, ◌+◌, ◌-◌, ◌<◌, List, ◌++◌, min, length, take, drop, ℤ, sym, ap, ◌∙◌, subst, arith}
 use Rattle.std.proofs.lemmas.List.{take_all}
 use Rattle.device.specs.Meaning.{Meaning, current_at}
 use Rattle.page.specs.Block.{block_at, level_of}
 use Rattle.table.specs.declared.pair.Pair.{Pair}
-use Rattle.table.specs.Rows.{pair_of, angle_of}
+use Rattle.table.specs.Rows.{angle_of}
 use Rattle.tree.specs.Node.{map_e}
 use Rattle.tree.proofs.Over.{map-append}
 use Rattle.reads.specs.Sound.{SoundAt, rows_at, rows_in}
 use Rattle.reads.specs.Lists.{due, written}
-use Rattle.reads.specs.Summary.{summary_of}
 use Rattle.reads.proofs.Blocks.{here, readable, leaf_rows, leaf_valid, next_of, due_before}
 use Rattle.reads.proofs.Places.{some_entries}
-use Rattle.reads.proofs.Totals.{summary-append, summary-push}
 use Rattle.reads.proofs.Written.{due_append, both, empty_slice}
 use Rattle.reads.proofs.listing.+list_block.Goals as goal
 

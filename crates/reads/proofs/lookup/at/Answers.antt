@@ -1,13 +1,11 @@
-use Rattle.std.proofs.Common.{◌≡◌, map, ℕ, List, ℤ, Some, None, Option, sym, refl, ap, ◌∙◌, subst, ap₂}
+use Rattle.std.proofs.Common.{◌≡◌, ℕ, List, ℤ, Some, None, Option, sym, refl, ap, ◌∙◌, subst, ap₂}
 use Rattle.std.specs.Option.{option_map}
 use Rattle.device.specs.Meaning.{Meaning, current_at}
 use Rattle.table.specs.declared.row.Row.{Row}
-use Rattle.table.specs.declared.around.Around.{Around}
 use Rattle.table.specs.Around.{StandsAround}
 use Rattle.table.specs.Rows.{pair_of, angle_of}
 use Rattle.table.specs.Angles.{up_to, past, angle_by, angle_at}
 use Rattle.tree.specs.Node.{map_e}
-use Rattle.page.specs.View.{entries}
 use Rattle.reads.specs.Sound.{rows_at}
 use Rattle.reads.specs.Descent.{Beside, rows_beside}
 use Rattle.reads.proofs.Good.{start}

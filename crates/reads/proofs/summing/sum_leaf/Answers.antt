@@ -1,4 +1,4 @@
-use Rattle.std.proofs.Common.{◌≡◌, ℕ, ◌+◌, ◌<◌, length, get_or, take, ℤ, sym, ap, ◌∙◌, ap₂, arith}
+use Rattle.std.proofs.Common.{ℕ, ◌<◌, length, get_or, take, ℤ, sym, ap, ◌∙◌, ap₂, arith}
 use Rattle.table.specs.Rows.{angle_of}
 use Rattle.tree.specs.Node.{map_e}
 use Rattle.reads.specs.Summary.{summary_of}

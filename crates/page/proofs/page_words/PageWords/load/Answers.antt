@@ -1,6 +1,6 @@
-use Rattle.std.proofs.Common.{◌≡◌, ℕ, ◌+◌, ◌≤◌, List, length, take, drop, length-drop, refl, ap, ◌∙◌, arith}
+use Rattle.std.proofs.Common.{◌≡◌, take, length-drop, refl, ap, ◌∙◌, arith}
 use Rattle.device.specs.Meaning.{answered, filled}
-use Rattle.page.proofs.Seen.{Standing, standing, front_width, front_readable, front_read}
+use Rattle.page.proofs.Seen.{standing, front_width, front_readable, front_read}
 use Rattle.page.proofs.page_words.PageWords.load.Goals as goal
 
 pub unwrap-requires : goal.unwrap-requires

@@ -1,4 +1,4 @@
-use Rattle.std.proofs.Common.{true, false, sym, ◌∙◌, rules}
+use Rattle.std.proofs.Common.{true, false, rules}
 use Rattle.page.specs.View.{slot_of}
 use Rattle.page.proofs.Slots.{decode_by}
 use Rattle.page.proofs.roots.Slot.decode.Goals as goal
