@@ -1,6 +1,6 @@
 -- What the places reach, block by block; and the free blocks by the counts.
 use Rattle.std.specs.Prelude.{◌≡◌, ℕ, T, List, [], ◌∷◌, ◌++◌, length, Some, None}
-use Rattle.device.specs.Meaning.{Meaning, blocks_of, current_at}
+use Rattle.device.specs.Meaning.{Meaning, blocks_of}
 use Rattle.page.specs.Block.{block_at}
 use Rattle.page.specs.Slot.{Table}
 use Rattle.counts.specs.Counts.{occ, Counted, Reached, free_blocks}
