@@ -12,7 +12,7 @@ use Rattle.model.proofs.Right.{histories}
 use Rattle.table.specs.declared.pair.Pair.{Pair}
 use Rattle.history.specs.declared.call.Answer.{Answer as Given}
 use Rattle.history.specs.declared.call.Denied.{Denied}
-use Rattle.history.specs.declared.call.Denied.TheVariants.{OutOfTurn, NoMemory, Refused}
+use Rattle.history.specs.declared.call.Denied.TheVariants.{OutOfTurn, Refused}
 use Rattle.history.specs.Calls.{answer_of}
 use Rattle.history.specs.Machine.{Stepped, Outcome}
 use Rattle.history.specs.Law.{Law, Lawful}
@@ -49,4 +49,3 @@ module _ (V : Type 0) (join : ℕ → Map → V) where
   performed out s c (Ok a) s' S = lawful s c (answer_of out (Ok a)) s' S
   performed out s c (Err (Refused r)) s' S = lawful s c (answer_of out (Err r)) s' S
   performed out s c (Err OutOfTurn) s' S = S
-  performed out s c (Err NoMemory) s' S = S

@@ -45,9 +45,6 @@ pub enum Denied {
     // The machine is not in the state that the call is for.
     #[error("out of turn")]
     OutOfTurn,
-    // There is no memory for the counts of the volume to be mounted.
-    #[error("no memory")]
-    NoMemory,
     // The volume refuses, or the device holds none.
     #[error("{0}")]
     Refused(Refusal),

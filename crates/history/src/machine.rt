@@ -1,11 +1,11 @@
 // A volume and its device, in the state in which the last call or cut left them.
-ghost use Rattle.std.specs.Prelude.{◌≡◌, ℕ, List, length, MatchResult};
+ghost use Rattle.std.specs.Prelude.{◌≡◌, ℕ, List, length, Some, MatchResult};
 ghost use Rattle.table.specs.declared.pair.Pair.{Pair};
 ghost use Rattle.model.specs.Plain.{Call.ask};
 ghost use Rattle.model.specs.World.{Mode.mounted, Mode.sealed, Mode.down, Formatted, bare};
 ghost use Rattle.device.specs.Cuts.{replay};
 ghost use Rattle.model.specs.Onward.{formatting};
-ghost use Rattle.mount.specs.Formats.{Hindered};
+ghost use Rattle.mount.specs.Formats.{hindrance};
 ghost use Rattle.history.specs.Calls.{ask_of, call_of, answer_of, shown, summed, Filled};
 ghost use Rattle.history.specs.Law.{Lawful};
 ghost use Rattle.history.specs.Machine.{Stepped, Outcome, state_of};
@@ -13,7 +13,6 @@ ghost use Rattle.history.specs.Machine.{Stepped, Outcome, state_of};
 use super::call::{Answer, Ask, Call, Denied};
 use device::Device;
 use model::Refusal;
-use std::alloc::Global;
 use table::{Pair, Summary};
 use volume::{Sealed, Volume};
 
@@ -111,7 +110,6 @@ fn while_sealed<D: Device, S: Summary>(
 
 // A call of a machine that is down.
 fn while_down<D: Device, S: Summary>(
-    heap: Global,
     device: D,
     call: Call,
 ) -> (Machine<D>, Result<Answer<S>, Denied>)
@@ -119,9 +117,8 @@ fn while_down<D: Device, S: Summary>(
     ensures none { shown result.1 ≡ 0 }
 {
     match call {
-        Call::Mount => match Volume::mount(heap, device) {
+        Call::Mount => match Volume::mount(device) {
             Ok(volume) => (Machine::Mounted(volume), Ok(Answer::Done)),
-            Err((device, Refusal::NoMemory)) => (Machine::Down(device), Err(Denied::NoMemory)),
             Err((device, refusal)) => (Machine::Down(device), Err(Denied::Refused(refusal))),
         },
         Call::Ask(_) | Call::Seal | Call::Finish | Call::Reopen => {
@@ -133,7 +130,6 @@ fn while_down<D: Device, S: Summary>(
 // What comes of a call: a step of the volume, or nothing.
 fn step<D: Device, S: Summary>(
     machine: Machine<D>,
-    heap: Global,
     call: Call,
     out: &mut [Pair],
 ) -> (Machine<D>, Result<Answer<S>, Denied>)
@@ -143,31 +139,30 @@ fn step<D: Device, S: Summary>(
     match machine {
         Machine::Mounted(volume) => while_mounted(volume, call, out),
         Machine::Sealed(volume) => while_sealed(volume, call),
-        Machine::Down(device) => while_down(heap, device, call),
+        Machine::Down(device) => while_down(device, call),
     }
 }
 
 // Makes one call of a history: it is lawful, or it changes nothing. The pairs of the slice that a list does not fill keep their values.
 pub fn perform<D: Device, S: Summary>(
     machine: Machine<D>,
-    heap: Global,
     call: Call,
     out: &mut [Pair],
 ) -> (Machine<D>, Result<Answer<S>, Denied>)
     ensures law { Outcome (Lawful S (summed S.summing)) out.new (state_of D.Device.meaning machine) (call_of (length out.old) call) result.1 (state_of D.Device.meaning result.0) }
     ensures slice { Filled (shown result.1) out.old out.new }
 {
-    step(machine, heap, call, out)
+    step(machine, call, out)
 }
 
 impl<D: Device> Machine<D> {
     // Makes an empty volume on a device, or gives the device back with the reason why it cannot.
-    pub fn format(heap: Global, device: D) -> Result<Machine<D>, (D, Refusal)>
+    pub fn format(device: D) -> Result<Machine<D>, (D, Refusal)>
         ensures { MatchResult result
             (λ v. (state_of D.Device.meaning v ≡ (mounted bare, replay (formatting (D.Device.meaning device).width) (D.Device.meaning device))) × Formatted (state_of D.Device.meaning v).1)
-            (λ e. (D.Device.meaning e.0 ≡ D.Device.meaning device) × Hindered (D.Device.meaning device) e.1) }
+            (λ e. (D.Device.meaning e.0 ≡ D.Device.meaning device) × (hindrance (D.Device.meaning device) ≡ Some e.1)) }
     {
-        Ok(Machine::Mounted(Volume::format(heap, device)?))
+        Ok(Machine::Mounted(Volume::format(device)?))
     }
 
     // Gives the device back as it is.

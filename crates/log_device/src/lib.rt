@@ -2,8 +2,9 @@
 // are flushed, and these outlast a cut of the power.
 #![tactic(auto)]
 
-ghost use Rattle.std.specs.Prelude.{◌≡◌, ◌+◌, ◌-◌, ◌*◌, ◌^◌, ◌<◌, ◌≤◌, ◌∷◌, length, take, drop, replicate, MatchBool, MatchOption, MatchResult, slice_index, slice_set};
+ghost use Rattle.std.specs.Prelude.{◌≡◌, ◌+◌, ◌-◌, ◌*◌, ◌^◌, ◌<◌, ◌≤◌, ◌∷◌, length, take, drop, replicate, MatchBool, MatchOption, MatchResult, None, Some, slice_index, slice_index_or, slice_set};
 ghost use Rattle.std.specs.List.{AllByRecursion};
+ghost use Rattle.arrayvec.specs.ArrayVec.{array_vec_len};
 ghost use Rattle.device.specs.declared.Layer.{Layer};
 ghost use Rattle.device.specs.Meaning.{Meaning, Limits, shown_of};
 ghost use Rattle.device.specs.Cuts.{replay, replay_goes_on};
@@ -15,8 +16,8 @@ ghost use Rattle.log_device.specs.Log.{log_of, opened_log, Image, image_of, repl
 ghost use Rattle.log_device.specs.declared.LogRefusal.{LogRefusal};
 ghost use Rattle.log_device.specs.Refusals.{Refused, refusal_number};
 
+use arrayvec::ArrayVec;
 use device::{Device, DeviceFault, Layer, LayerMark, Reader, is_shape};
-use std::alloc::{AllocError, Global};
 use word::{Kind, payload};
 
 // Writes a record: the word of its block, and its content.
@@ -34,6 +35,42 @@ fn flushed(image: &[u32]) -> usize
     ensures { result ≡ flushed_in image.now }
 {
     payload(image[0]) as usize
+}
+
+// For each block the number of its last record.
+type Index = ArrayVec<Option<u32>, 4096>;
+
+// No number, 4,096 times.
+fn no_numbers() -> [Option<u32>; 4096]
+    ensures { result ≡ replicate 4096 None }
+{
+    [None; 4096]
+}
+
+// An index of no records, for so many blocks.
+fn blank_index(blocks: u32) -> Index
+    requires { blocks ≤ 4096 }
+    ensures { result.items ≡ replicate blocks None }
+{
+    let mut index = ArrayVec::from(no_numbers());
+    index.truncate(blocks as usize);
+    index
+}
+
+// The number of a block's last record, if it has one.
+fn number_in(index: &Index, block: u32) -> Option<u32>
+    requires { block < array_vec_len index.now }
+    ensures { result ≡ slice_index_or index.now.items block None }
+{
+    index[block as usize]
+}
+
+// Enters a block's last record.
+fn enter(index: &mut Index, block: u32, number: u32)
+    requires { block < array_vec_len index.old }
+    ensures { index.new.items ≡ slice_set index.old.items block (Some number) }
+{
+    index[block as usize] = Some(number);
 }
 
 // How a log lies in an image: its blocks, 1 to 4,096, and the words of each, 1 to 64.
@@ -101,7 +138,7 @@ impl Layout {
     }
 
     // The numbers of each block's last record, or why the image is not opened.
-    fn read_index(self, heap: Global, image: &[u32]) -> Result<Vec<Option<u32>>, LogRefusal>
+    fn read_index(self, image: &[u32]) -> Result<Index, LogRefusal>
         ensures formed { MatchResult result
             (λ index. Shaped (length image.now) self.blocks self.width × Formed image.now self.blocks self.width
             × Indexed image.now self.blocks self.width (flushed_in image.now) index.items)
@@ -114,11 +151,11 @@ impl Layout {
         if !self.is_formed(image) {
             return Err(LogRefusal::Malformed);
         }
-        let mut index = vec![in heap; None; self.blocks as usize]?;
+        let mut index = blank_index(self.blocks);
         let count = flushed(image);
         let records = &image[1..self.place(count)];
         for (number, record) in records.chunks_exact(self.width + 1).enumerate() {
-            index[payload(record[0]) as usize] = Some(number as u32);
+            enter(&mut index, payload(record[0]), number as u32);
         }
         Ok(index)
     }
@@ -127,8 +164,6 @@ impl Layout {
 // Why an image is not opened.
 #[derive(Clone, Copy, PartialEq, Eq, Debug)]
 pub enum LogRefusal {
-    // There is no memory for the index.
-    NoMemory = 0,
     // The image has no word, or the blocks or their width break the limits.
     Shape = 2,
     // The head or the word of a flushed record is not one of this log.
@@ -136,19 +171,11 @@ pub enum LogRefusal {
 }
 
 impl LogRefusal {
-    // The refusal's number; 0 where memory is wanting.
+    // The refusal's number.
     pub fn number(self) -> u8
         ensures { result ≡ refusal_number self }
     {
         self as u8
-    }
-}
-
-impl From<AllocError> for LogRefusal {
-    ghost from_gives = { λ _ r. r ≡ LogRefusal.NoMemory };
-
-    fn from(_: AllocError) -> LogRefusal {
-        LogRefusal::NoMemory
     }
 }
 
@@ -164,20 +191,14 @@ pub struct Log<'a> {
     image: &'a mut [u32],
     layout: Layout,
     count: usize,
-    // The number of each block's last record.
-    index: Vec<Option<u32>>,
+    index: Index,
     ghost sound: { Sound image.now layout.blocks layout.width count } by { Prim.hlevel props },
     ghost indexed: { Indexed image.now layout.blocks layout.width count index.items } by { Prim.hlevel props },
 }
 
 impl<'a> Log<'a> {
     // Keeps the flushed records. What is refused comes back unchanged.
-    pub fn open(
-        heap: Global,
-        image: &'a mut [u32],
-        blocks: u32,
-        width: usize,
-    ) -> Result<Log<'a>, Unopened<'a>>
+    pub fn open(image: &'a mut [u32], blocks: u32, width: usize) -> Result<Log<'a>, Unopened<'a>>
         ensures opened { MatchResult result
             (λ s. Shaped (length image.old) blocks width × Formed image.old blocks width
             × (log_of s.image.now s.layout.blocks s.layout.width s.count ≡ opened_log image.old blocks width)
@@ -189,7 +210,7 @@ impl<'a> Log<'a> {
             let refusal = LogRefusal::Shape;
             return Err(Unopened { image, refusal });
         };
-        match layout.read_index(heap, image) {
+        match layout.read_index(image) {
             Ok(index) => {
                 let count = flushed(image);
                 Ok(Log {
@@ -217,7 +238,7 @@ impl<'a> Log<'a> {
             (last_of (records self.now.layout.width self.now.image.now self.now.count) block (replicate self.now.layout.width 0) ≡ replicate self.now.layout.width 0)
             (λ words. words.now ≡ last_of (records self.now.layout.width self.now.image.now self.now.count) block (replicate self.now.layout.width 0)) }
     {
-        let number = self.index[block as usize]?;
+        let number = number_in(&self.index, block)?;
         let from = self.layout.place(number as usize) + 1;
         Some(&self.image[from..from + self.layout.width])
     }
@@ -277,7 +298,7 @@ impl<'a> Device for Log<'a> {
         let from = self.layout.place(self.count);
         let to = from + self.layout.width + 1;
         write_record(&mut self.image[from..to], Kind::Record.word(block), words);
-        self.index[block as usize] = Some(self.count as u32);
+        enter(&mut self.index, block, self.count as u32);
         self.count += 1;
         Ok(())
     }
@@ -310,7 +331,7 @@ mod tests {
     #[test]
     fn unflushed_records_are_lost(rt: HostRuntime) -> Result<(), Fail> {
         let mut image = [0x8000_0000, 0, 0, 0, 0, 0, 0, 0, 0, 0, 0];
-        let Ok(mut log) = Log::open(rt.alloc(), &mut image, 2, 2) else {
+        let Ok(mut log) = Log::open(&mut image, 2, 2) else {
             return Err(Fail::new("a new log is refused"));
         };
         assert_eq!(rt; log.blocks(), 2);
@@ -325,7 +346,7 @@ mod tests {
         log.read(1, &mut out)?;
         assert_eq!(rt; out, [7, 8]);
         let image = log.into_image();
-        let Ok(mut log) = Log::open(rt.alloc(), image, 2, 2) else {
+        let Ok(mut log) = Log::open(image, 2, 2) else {
             return Err(Fail::new("it does not open again"));
         };
         log.read(1, &mut out)?;
@@ -337,7 +358,7 @@ mod tests {
     #[test]
     fn a_full_log_is_worn(rt: HostRuntime) -> Result<(), Fail> {
         let mut image = [0x8000_0000, 0, 0, 0];
-        let Ok(mut log) = Log::open(rt.alloc(), &mut image, 1, 1) else {
+        let Ok(mut log) = Log::open(&mut image, 1, 1) else {
             return Err(Fail::new("a new log is refused"));
         };
         log.write(0, &[1])?;
@@ -360,7 +381,7 @@ mod tests {
     fn bad_images_come_back(rt: HostRuntime) -> Result<(), Fail> {
         // The head is of kind 9.
         let mut image = [0x9000_0000, 0, 0];
-        let Err(refused) = Log::open(rt.alloc(), &mut image, 1, 1) else {
+        let Err(refused) = Log::open(&mut image, 1, 1) else {
             return Err(Fail::new("a bad head is opened"));
         };
         assert_eq!(rt; refused.refusal.number(), 15);
@@ -369,15 +390,15 @@ mod tests {
         // One flushed record, of block 1.
         image[0] = 0x8000_0001;
         image[1] = 0x9000_0001;
-        let Err(refused) = Log::open(rt.alloc(), image, 1, 1) else {
+        let Err(refused) = Log::open(image, 1, 1) else {
             return Err(Fail::new("a record of no block is opened"));
         };
         assert_eq!(rt; refused.refusal.number(), 15);
-        let Err(refused) = Log::open(rt.alloc(), refused.image, 2, 65) else {
+        let Err(refused) = Log::open(refused.image, 2, 65) else {
             return Err(Fail::new("a wide block is opened"));
         };
         assert_eq!(rt; refused.refusal.number(), 2);
-        assert!(rt; Log::open(rt.alloc(), refused.image, 2, 1).is_ok());
+        assert!(rt; Log::open(refused.image, 2, 1).is_ok());
         Ok(())
     }
 }

@@ -1,3 +1,4 @@
 pub mod Held
 pub mod Built
-pub mod Logs
+pub mod Faults
+pub mod Sides

@@ -1,13 +1,14 @@
 // What lies below the devices of the programs: the words of a memory, and of a mirror of it with a log.
 #![tactic(auto)]
 
-ghost use Rattle.std.specs.Prelude.{◌≡◌, ◌≤◌, ◌+◌, ◌*◌, length, replicate, IfOk, MatchResult};
+ghost use Rattle.std.specs.Prelude.{◌≡◌, ◌+◌, ◌*◌, ◌∷◌, length, replicate, IfOk, MatchResult};
 ghost use Rattle.device.specs.Meaning.{Limits};
 ghost use Rattle.memory.specs.Memory.{memory, parts, parts_of, Shaped};
-ghost use Rattle.log_device.specs.Log.{opened_log};
+ghost use Rattle.word.specs.Words.{word_of};
 ghost use Rattle.medium.specs.Held.{held, opened};
 ghost use Rattle.medium.specs.Built.{Buildable, built};
-ghost use Rattle.medium.specs.Logs.{Readable, log_fault};
+ghost use Rattle.medium.specs.Faults.{fault_number, log_fault};
+ghost use Rattle.medium.specs.Sides.{Planned, shown, Refused};
 ghost use Rattle.medium.specs.declared.Fault.{Fault};
 
 use check_layer::Check;
@@ -28,18 +29,23 @@ pub const GARBAGE: u32 = 0xdead_dead;
 // Why there are no devices.
 #[derive(Clone, Copy, PartialEq, Eq, Debug, Drop, Error)]
 pub enum Fault {
-    #[error("no memory")]
-    NoMemory,
-    // The blocks, their width or the room of the log are beyond the limits.
+    // The blocks, their width or the room of the log are beyond the limits, or the sides of a mirror are not of one shape.
     #[error("refused 2")]
     Shape,
+    // The head or the word of a flushed record is not one of the log.
+    #[error("refused 15")]
+    Malformed,
 }
 
-impl From<AllocError> for Fault {
-    ghost from_gives = { λ _ r. r ≡ Fault.NoMemory };
-
-    fn from(_: AllocError) -> Fault {
-        Fault::NoMemory
+impl Fault {
+    // The fault's number among the refusals.
+    pub fn number(self) -> u8
+        ensures { result ≡ fault_number self }
+    {
+        match self {
+            Fault::Shape => 2,
+            Fault::Malformed => 15,
+        }
     }
 }
 
@@ -56,8 +62,8 @@ impl<'a> From<Unopened<'a>> for Fault {
 
     fn from(unopened: Unopened<'a>) -> Fault {
         match unopened.refusal {
-            LogRefusal::NoMemory => Fault::NoMemory,
-            LogRefusal::Shape | LogRefusal::Malformed => Fault::Shape,
+            LogRefusal::Shape => Fault::Shape,
+            LogRefusal::Malformed => Fault::Malformed,
         }
     }
 }
@@ -72,17 +78,27 @@ pub struct Words {
 }
 
 impl Words {
-    // Words of 0 for so many blocks, 1 to 4,096, of so many words each, 1 to 64.
-    pub fn blank(heap: Global, blocks: u32, width: u32) -> Result<Words, Fault>
+    // Refuses all but 1 to 4,096 blocks of 1 to 64 words each.
+    pub fn check(blocks: u32, width: u32) -> Result<(), Fault>
         ensures { MatchResult result
-            (λ words. Limits blocks width × (held words ≡ parts (replicate (blocks * width) 0) (replicate (blocks * width) 0) (replicate blocks 0) width))
-            (λ fault. (fault ≡ Fault.Shape) → Limits blocks width → ⊥) }
+            (λ _. Limits blocks width)
+            (λ fault. (fault ≡ Fault.Shape) × (Limits blocks width → ⊥)) }
+    {
+        if is_shape(blocks as usize, width as usize) {
+            Ok(())
+        } else {
+            Err(Fault::Shape)
+        }
+    }
+
+    // Words of 0 for so many blocks of so many words each.
+    pub fn blank(heap: Global, blocks: u32, width: u32) -> Result<Words, AllocError>
+        requires { Limits blocks width }
+        ensures { IfOk result (λ words. held words
+            ≡ parts (replicate (blocks * width) 0) (replicate (blocks * width) 0) (replicate blocks 0) width) }
     {
         let blocks = blocks as usize;
         let width = width as usize;
-        if !is_shape(blocks, width) {
-            return Err(Fault::Shape);
-        }
         Ok(Words {
             current: vec![in heap; 0u32; blocks * width]?,
             persisted: vec![in heap; 0u32; blocks * width]?,
@@ -95,7 +111,7 @@ impl Words {
     pub fn open(&mut self) -> Result<Memory<'_>, Fault>
         ensures { MatchResult result
             (λ s. memory (parts_of s.slices s.width) ≡ opened self.old)
-            (λ fault. Shaped (held self.old) → ⊥) }
+            (λ fault. (fault ≡ Fault.Shape) × (Shaped (held self.old) → ⊥)) }
     {
         let width = self.width;
         Ok(Memory::open(
@@ -116,17 +132,27 @@ pub struct Sides {
 }
 
 impl Sides {
-    // A mirror that was never written, of so many blocks, 1 to 4,096, of so many words, at most 63, whose log has room for so
-    // many writes, at most 1,000,000.
-    pub fn blank(heap: Global, blocks: u32, width: u32, records: u32) -> Result<Sides, Fault>
+    // Refuses all but 1 to 4,096 blocks of at most 63 words each, and room in the log for at most 1,000,000 writes.
+    pub fn check(blocks: u32, width: u32, records: u32) -> Result<(), Fault>
         ensures { MatchResult result
-            (λ sides. Readable sides.image.items blocks (width + 1) × (length sides.image.items ≡ 1 + records * (width + 2))
-            × (held sides.words ≡ parts (replicate (blocks * (width + 1)) 0) (replicate (blocks * (width + 1)) 0) (replicate blocks 0) (width + 1)) × (sides.blocks ≡ blocks))
-            (λ fault. (fault ≡ Fault.Shape) → Limits blocks (width + 1) → records ≤ 1000000 → ⊥) }
+            (λ _. Planned blocks width records)
+            (λ fault. (fault ≡ Fault.Shape) × (Planned blocks width records → ⊥)) }
     {
-        if width > 63 || records > 1_000_000 {
-            return Err(Fault::Shape);
+        if is_shape(blocks as usize, width as usize + 1) && records <= 1_000_000 {
+            Ok(())
+        } else {
+            Err(Fault::Shape)
         }
+    }
+
+    // A mirror that was never written, of so many blocks of so many words, whose log has room for so many writes.
+    pub fn blank(heap: Global, blocks: u32, width: u32, records: u32) -> Result<Sides, AllocError>
+        requires { Planned blocks width records }
+        ensures image { IfOk result (λ sides. sides.image.items ≡ word_of 8 0 ∷ replicate (records * (width + 2)) 0) }
+        ensures words { IfOk result (λ sides. held sides.words
+            ≡ parts (replicate (blocks * (width + 1)) 0) (replicate (blocks * (width + 1)) 0) (replicate blocks 0) (width + 1)) }
+        ensures blocks { IfOk result (λ sides. sides.blocks ≡ blocks) }
+    {
         // The word of the check, and in a log the word of the block.
         let mut image = vec![in heap; 0u32; 1 + records as usize * (width as usize + 2)]?;
         image[0] = Kind::Log.word(0);
@@ -139,23 +165,25 @@ impl Sides {
 
     // The power fails: of the memory only the persisted words are left.
     pub fn lose_power(&mut self)
-        ensures { (length self.new.words.current.items ≡ length self.old.words.current.items) × (self.new.words.persisted.items ≡ self.old.words.persisted.items)
-            × (self.new.words.marks.items ≡ self.old.words.marks.items) × (self.new.words.width ≡ self.old.words.width)
-            × (self.new.image.items ≡ self.old.image.items) × (self.new.blocks ≡ self.old.blocks) }
+        ensures lost { self.new.words.current.items ≡ replicate (length self.old.words.current.items) GARBAGE }
+        ensures persisted { self.new.words.persisted.items ≡ self.old.words.persisted.items }
+        ensures marks { self.new.words.marks.items ≡ self.old.words.marks.items }
+        ensures width { self.new.words.width ≡ self.old.words.width }
+        ensures image { self.new.image.items ≡ self.old.image.items }
+        ensures blocks { self.new.blocks ≡ self.old.blocks }
     {
         self.words.current.fill(GARBAGE);
     }
 
     // Opens both sides, and builds the layers over them.
-    pub fn open(&mut self, heap: Global) -> Result<Mirrored<'_>, Fault>
+    pub fn open(&mut self) -> Result<Mirrored<'_>, Fault>
         ensures { MatchResult result
-            (λ s. ⟦<Mirrored<'static> as Device>⟧.meaning s ≡ built (opened self.old.words) (opened_log self.old.image.items self.old.blocks self.old.words.width))
-            (λ fault. (fault ≡ Fault.Shape) → Readable self.old.image.items self.old.blocks self.old.words.width → Shaped (held self.old.words)
-            → Buildable (opened self.old.words) (opened_log self.old.image.items self.old.blocks self.old.words.width) → ⊥) }
+            (λ s. ⟦<Mirrored<'static> as Device>⟧.meaning s ≡ shown self.old)
+            (λ fault. Refused fault self.old) }
     {
         let blocks = self.blocks;
         let width = self.words.width;
-        let log = Log::open(heap, &mut self.image, blocks, width)?;
+        let log = Log::open(&mut self.image, blocks, width)?;
         let memory = self.words.open()?;
         checked_mirror(memory, log)
     }
@@ -168,7 +196,7 @@ fn checked_mirror<A: Device + Drop, B: Device + Drop>(
 ) -> Result<Mirror<Check<A>, Check<B>>, Fault>
     ensures { MatchResult result
         (λ s. ⟦<Mirror<Check<A>, Check<B>> as Device>⟧.meaning s ≡ built (A.Device.meaning first) (B.Device.meaning second))
-        (λ _. Buildable (A.Device.meaning first) (B.Device.meaning second) → ⊥) }
+        (λ fault. (fault ≡ Fault.Shape) × (Buildable (A.Device.meaning first) (B.Device.meaning second) → ⊥)) }
 {
     Ok(Mirror::build(Check::build(first)?, Check::build(second)?)?)
 }

@@ -4,9 +4,8 @@ use Rattle.device.specs.declared.LayerMark.{LayerMark}
 use Rattle.table.specs.declared.row.RowFault.{RowFault}
 use Rattle.table.specs.declared.row.RowFault.TheVariants as row
 use Rattle.model.specs.declared.refusal.Refusal.{Refusal}
-use Rattle.model.specs.declared.refusal.Refusal.TheVariants.{Shape, Number, Speed, Angle, Absent, Taken, Short, Worn, Last, NoVolume, Damaged, Malformed, NoMemory}
+use Rattle.model.specs.declared.refusal.Refusal.TheVariants.{Shape, Number, Speed, Angle, Absent, Taken, Short, Worn, Last, NoVolume, Damaged, Malformed}
 
--- want of memory has no number of its own among the refusals: it is 0
 abbrev pub number : Refusal → ℕ
 number Shape = 2
 number Number = 5
@@ -20,7 +19,6 @@ number Last = 12
 number NoVolume = 13
 number (Damaged b c k) = 14
 number (Malformed b c) = 15
-number NoMemory = 0
 
 -- the block that a refusal names
 abbrev pub block_named : Refusal → Option ℕ
@@ -36,7 +34,6 @@ block_named Last = None
 block_named NoVolume = None
 block_named (Damaged b c k) = Some b
 block_named (Malformed b c) = Some b
-block_named NoMemory = None
 
 -- the clone that a refusal names
 abbrev pub clone_named : Refusal → Option ℕ
@@ -52,7 +49,6 @@ clone_named Last = None
 clone_named NoVolume = None
 clone_named (Damaged b c k) = Some c
 clone_named (Malformed b c) = Some c
-clone_named NoMemory = None
 
 -- the layer that a refusal names
 abbrev pub layer_named : Refusal → Option LayerMark
@@ -68,7 +64,6 @@ layer_named Last = None
 layer_named NoVolume = None
 layer_named (Damaged b c k) = Some k
 layer_named (Malformed b c) = None
-layer_named NoMemory = None
 
 -- the refusal of two numbers that are no row
 abbrev pub refused_row : RowFault → Refusal

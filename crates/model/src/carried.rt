@@ -17,7 +17,7 @@ impl From<RowFault> for Refusal {
 }
 
 impl Refusal {
-    // The refusal's number; 0 for want of memory.
+    // The refusal's number.
     pub fn number(self) -> u8
         ensures { result ≡ number self }
     {
@@ -34,7 +34,6 @@ impl Refusal {
             Refusal::NoVolume => 13,
             Refusal::Damaged { .. } => 14,
             Refusal::Malformed { .. } => 15,
-            Refusal::NoMemory => 0,
         }
     }
 

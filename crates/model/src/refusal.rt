@@ -37,6 +37,4 @@ pub enum Refusal {
         block: u32,
         clone: u32,
     },
-    // There is no memory for the counts.
-    NoMemory,
 }

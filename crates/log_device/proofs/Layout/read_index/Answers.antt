@@ -1,4 +1,4 @@
-use Rattle.std.proofs.Common.{◌≡◌, ◌+◌, ◌++◌, ◌<◌, ◌≤◌, ◌^◌, Some, length, set, vec_items, sym, ap, rules, ◌∙◌, subst, arith}
+use Rattle.std.proofs.Common.{◌≡◌, ◌+◌, ◌++◌, ◌<◌, ◌≤◌, ◌^◌, Some, length, set, sym, ap, rules, ◌∙◌, subst, subst₂, arith}
 use Rattle.std.specs.Slice.Iter.{chunks_exact_rest}
 use Rattle.std.specs.Iterator.Adapters.{enumerate_source}
 use Rattle.std.proofs.ByRecursion.{All-from_get_or}
@@ -27,8 +27,8 @@ overflow_cast-number c =
     let low : i < k = is_one img w k room i _ _ cut size in
     omega (arith, low, h, c.in-Some.ensures.steps.1, c.loop-number.invariant.count)
 
-pub index_mut-requires : goal.index_mut-requires
-index_mut-requires c =
+pub enter-requires : goal.enter-requires
+enter-requires c =
     let img = c.args.image.now in
     let w = c.args.self.width in
     let n = c.args.self.blocks in
@@ -70,9 +70,8 @@ loop-number-preserved c =
       rest = rest_left img w k room i _ _ cut size ∙ ap (left_of img w k) (sym more);
       count = omega (arith, c.in-Some.ensures.steps.2, c.loop-number.invariant.count, more);
       within = omega (arith, more, low);
-      index = subst (λ m. Indexed img n w m (set (vec_items c.loop-number.index) c.payload.result (Some c.in-Some.number))) (sym more)
-          (subst (λ j. Indexed img n w (i + 1) (set (vec_items c.loop-number.index) c.payload.result (Some j))) (sym number)
-          (index_more img n w i c.payload.result (vec_items c.loop-number.index) c.loop-number.invariant.index block within));
+      index = subst₂ (λ m xs. Indexed img n w m xs) (sym more) (sym (c.enter.ensures ∙ ap (λ j. set c.loop-number.index.items c.payload.result (Some j)) number))
+          (index_more img n w i c.payload.result c.loop-number.index.items c.loop-number.invariant.index block within);
     }
 
 pub returns : goal.returns
@@ -89,6 +88,6 @@ returns c =
     let low : length (left_of img w k i) < w + 1 = omega (arith, ap length c.loop-number.invariant.rest, c.in-None.ensures.steps.0.1.0, c.loop-number.invariant.size) in
     let all : i ≡ flushed_in img = omega (arith, c.loop-number.invariant.within, no_more img w k room i low, c.flushed-count.ensures) in
     record {
-      formed = (record { long = long; limits = c.args.self.limits }, f, subst (λ m. Indexed img n w m (vec_items c.loop-number.index)) all c.loop-number.invariant.index);
+      formed = (record { long = long; limits = c.args.self.limits }, f, subst (λ m. Indexed img n w m c.loop-number.index.items) all c.loop-number.invariant.index);
       fits = All-from_get_or (λ x. x < 2 ^ 32) img 0 (λ j l. omega (arith, c.type_inv.image j));
     }

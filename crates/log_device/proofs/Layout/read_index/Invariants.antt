@@ -1,4 +1,4 @@
-use Rattle.std.proofs.Common.{◌≡◌, ◌+◌, ◌≤◌, length, vec_items}
+use Rattle.std.proofs.Common.{◌≡◌, ◌+◌, ◌≤◌, length}
 use Rattle.std.specs.Slice.Iter.{chunks_exact_rest, chunks_exact_size}
 use Rattle.std.specs.Iterator.Adapters.{enumerate_source, enumerate_count}
 use Rattle.log_device.specs.Log.{Indexed}
@@ -13,5 +13,5 @@ invariant-loop-number l = record {
   rest : chunks_exact_rest (enumerate_source l.number-iterator) ≡ left_of l.image l.fn.self.width l.count (length l.yielded);
   count : enumerate_count l.number-iterator ≡ length l.yielded;
   within : length l.yielded ≤ l.count;
-  index : Indexed l.image l.fn.self.blocks l.fn.self.width (length l.yielded) (vec_items l.index);
+  index : Indexed l.image l.fn.self.blocks l.fn.self.width (length l.yielded) l.index.items;
 }

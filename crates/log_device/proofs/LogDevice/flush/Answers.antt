@@ -1,4 +1,4 @@
-use Rattle.std.proofs.Common.{◌≡◌, set, vec_items, sym, ap, subst}
+use Rattle.std.proofs.Common.{◌≡◌, set, sym, ap, subst}
 use Rattle.device.specs.Meaning.{flushed}
 use Rattle.word.specs.Words.{word_of}
 use Rattle.log_device.specs.Log.{log_of, image_of, Sound, Indexed}
@@ -13,7 +13,7 @@ invariant_of-self c =
     let n = s.layout.blocks in
     let w = s.layout.width in
     let k = s.count in
-    let index = vec_items s.index in
+    let index = s.index.items in
     record {
       sound = subst (λ x. Sound (set img 0 x) n w k) (sym c.word.ensures) (flush_sound img n w k s.sound);
       indexed = subst (λ x. Indexed (set img 0 x) n w k index) (sym c.word.ensures)

@@ -1,4 +1,4 @@
-use Rattle.std.proofs.Common.{◌≡◌, ◌+◌, ◌-◌, ◌^◌, ◌<◌, ◌≤◌, ◌∷◌, Some, Err, Result, length, set, vec_items, sym, ap, ◌∙◌, subst, arith}
+use Rattle.std.proofs.Common.{◌≡◌, ◌+◌, ◌-◌, ◌^◌, ◌<◌, ◌≤◌, ◌∷◌, Some, Err, Result, length, set, sym, ap, ◌∙◌, subst, subst₂, arith}
 use borrow.Rule.Slice.PartMut.{put_mid}
 use Rattle.std.specs.List.{AllByRecursion}
 use Rattle.std.proofs.ByRecursion.{All-from_get_or}
@@ -31,8 +31,8 @@ word-requires c =
     let t = admitted_at s.image.now s.layout.blocks s.layout.width s.count c.args.block (length c.args.words.now) (sym c.in_ok-admit.was ∙ c.admit.ensures) in
     omega (arith, t.1, s.sound.limits.few)
 
-pub index_mut-requires : goal.index_mut-requires
-index_mut-requires c =
+pub enter-requires : goal.enter-requires
+enter-requires c =
     let s = c.args.self.now in
     let t = admitted_at s.image.now s.layout.blocks s.layout.width s.count c.args.block (length c.args.words.now) (sym c.in_ok-admit.was ∙ c.admit.ensures) in
     omega (arith, t.1, s.indexed.long)
@@ -46,7 +46,7 @@ invariant_of-self c =
     let k = s.count in
     let b = c.args.block in
     let ws = c.args.words.now in
-    let index = vec_items s.index in
+    let index = s.index.items in
     let t = admitted_at img n w k b (length ws) (sym c.in_ok-admit.was ∙ c.admit.ensures) in
     let fits : AllByRecursion (λ x. x < 2 ^ 32) ws = All-from_get_or (λ x. x < 2 ^ 32) ws 0 (λ i l. omega (arith, c.type_inv.words i)) in
     let room : k < capacity (length img) w = omega (arith, c.capacity.ensures, c.if-self-capacity.false) in
@@ -60,8 +60,8 @@ invariant_of-self c =
     record {
       sound = subst (λ j. Sound (put_mid j (j + w + 1 - j) img c.write_record.new.to) n w (k + 1)) (sym c.place-from.ensures)
           (subst (λ xs. Sound (put_mid (place_of w k) (place_of w k + w + 1 - place_of w k) img xs) n w (k + 1)) (sym e) (write_sound img n w k s.sound b ws t.1 t.0 fits room _ size));
-      indexed = subst (λ j. Indexed (put_mid j (j + w + 1 - j) img c.write_record.new.to) n w (k + 1) (set index b (Some k))) (sym c.place-from.ensures)
-          (subst (λ xs. Indexed (put_mid (place_of w k) (place_of w k + w + 1 - place_of w k) img xs) n w (k + 1) (set index b (Some k))) (sym e) entered);
+      indexed = subst (λ j. Indexed (put_mid j (j + w + 1 - j) img c.write_record.new.to) n w (k + 1) c.enter.new.index.items) (sym c.place-from.ensures)
+          (subst₂ (λ xs is. Indexed (put_mid (place_of w k) (place_of w k + w + 1 - place_of w k) img xs) n w (k + 1) is) (sym e) (sym c.enter.ensures) entered);
     }
 
 pub returns-clause-after : goal.returns-clause-after

@@ -1,19 +1,38 @@
-use Rattle.std.proofs.Common.{◌≡◌, ◌∙◌, ap}
-use Rattle.memory.specs.Memory.{Shaped, memory, parts_of}
-use Rattle.log_device.specs.Log.{opened_log, log_of}
-use Rattle.medium.specs.Held.{held, opened}
-use Rattle.medium.specs.Logs.{Readable}
+use Rattle.std.proofs.Common.{◌≡◌, List, ℕ, Err, length, sym, ap, ap₂, ◌∙◌, subst, subst₂, inr}
+use Rattle.std.proofs.lemmas.Result.{err_from_is_err_and}
+use Rattle.device.specs.Meaning.{Meaning}
+use Rattle.memory.specs.Memory.{memory, parts_of}
+use Rattle.log_device.specs.Log.{opened_log, log_of, Shaped, Formed}
+use Rattle.medium.specs.Built.{Buildable, built}
+use Rattle.medium.specs.Held.{opened}
+use Rattle.medium.specs.Sides.{LogShaped, LogFormed, Refused, log_shown, shown}
 use Rattle.medium.specs.declared.Fault.{Fault}
-use Rattle.medium.proofs.Moved.{moved}
+use Rattle.medium.proofs.Moved.{moved, failed}
 use Rattle.medium.proofs.Sides.open.Goals as goal
 
--- src/lib.rt:135:5
+pub returns-in_err-memory : goal.returns-in_err-memory
+returns-in_err-memory c =
+    let s = c.args.self.now in
+    let image : c.deref_mut.result.now ≡ s.image.items = c.deref_mut.ensures.value in
+    let shaped : LogShaped s = subst (λ (img : List ℕ). Shaped (length img) s.blocks s.words.width) image c.in_ok-log.ensures.opened.0 in
+    let formed : LogFormed s = subst (λ (img : List ℕ). Formed img s.blocks s.words.width) image c.in_ok-log.ensures.opened.1 in
+    let h = c.in_err-memory.ensures in
+    let y = err_from_is_err_and c.from_residual-in_err-memory.result c.from_residual-in_err-memory.ensures.1 in
+    failed _ (λ fault. Refused fault s) c.from_residual-in_err-memory.result c.in_err-memory.field-0.0 (y.1 ∙ ap Err y.2)
+    (subst (λ fault. Refused fault s) (sym h.0) (inr (shaped, formed, λ k b. h.1 k)))
+
 pub returns : goal.returns
 returns c =
-    let words = c.args.self.now.words in
-    let slices = c.in_ok-memory.memory.slices in
+    let s = c.args.self.now in
     let log = c.in_ok-log.log in
-    moved _ (λ fault. fault ≡ Fault.Shape) (Readable c.args.self.now.image.items c.args.self.now.blocks words.width)
-    (Shaped (held words)) (memory (parts_of slices c.in_ok-memory.memory.width)) (opened words)
-    (log_of log.image.now log.layout.blocks log.layout.width log.count) (opened_log c.args.self.now.image.items c.args.self.now.blocks words.width)
-    c.in_ok-memory.ensures (c.in_ok-log.ensures.opened.2 ∙ ap (λ image. opened_log image c.args.self.now.blocks words.width) c.deref_mut.ensures.value) c.checked_mirror.result c.checked_mirror.ensures
+    let slices = c.in_ok-memory.memory.slices in
+    let image : c.deref_mut.result.now ≡ s.image.items = c.deref_mut.ensures.value in
+    let shaped : LogShaped s = subst (λ (img : List ℕ). Shaped (length img) s.blocks s.words.width) image c.in_ok-log.ensures.opened.0 in
+    let formed : LogFormed s = subst (λ (img : List ℕ). Formed img s.blocks s.words.width) image c.in_ok-log.ensures.opened.1 in
+    let m : Meaning = memory (parts_of slices c.in_ok-memory.memory.width) in
+    let n : Meaning = log_of log.image.now log.layout.blocks log.layout.width log.count in
+    let p : m ≡ opened s.words = c.in_ok-memory.ensures in
+    let q : n ≡ log_shown s = c.in_ok-log.ensures.opened.2 ∙ ap (λ (img : List ℕ). opened_log img s.blocks s.words.width) image in
+    moved _ (λ fault. (fault ≡ Fault.Shape) × (Buildable m n → ⊥)) (λ fault. Refused fault s) (built m n) (shown s) (ap₂ built p q)
+    (λ e h. subst (λ fault. Refused fault s) (sym h.0) (inr (shaped, formed, λ _ b. h.1 (subst₂ Buildable (sym p) (sym q) b))))
+    c.checked_mirror.result c.checked_mirror.ensures
