@@ -6,7 +6,8 @@ use Rattle.std.proofs.ByRecursion.{All-map, All-append, All-set, All-get_or, All
 use Rattle.std.proofs.lemmas.Bool.Decides.{nat_tests}
 use Rattle.std.proofs.lemmas.List.{length-map, length-set, length-append}
 use Rattle.std.proofs.lemmas.Nat.{or_lt, xor_lt}
-use Rattle.device.specs.Meaning.{Meaning, Cell, Lawful, LawfulCell, Words, flushed_cell, written_cell, spent, no_cell, cell_at}
+use Rattle.device.specs.Meaning.{Meaning, Cell, Limits, Lawful, LawfulCell, Words, flushed_cell, written_cell, spent, no_cell, cell_at, blocks_of, shown_of}
+use Rattle.device.specs.Showing.{count_shown}
 use Rattle.device.specs.Cuts.{Op, Op.write, Op.flush, apply}
 use Rattle.device.proofs.Choices.{blocks_apply}
 use Rattle.check_layer.specs.Checked as checks
@@ -50,7 +51,7 @@ checked_words w ws h k = (
 )
 
 -- what is accepted above is accepted below
-module _ (m : Meaning) (wide : checks.Allowed m) where
+module _ (m : Meaning) (wide : checks.Allowed (shown_of m)) where
   pub check_accepts : (o : Op) → Accepts (checked m) o → Accepts m (handed o)
   check_accepts (write b ws) a = (omega (arith, a.0, length-map m.cells (checked_cell (m.width - 1))), checked_words m.width ws wide a.1, a.2)
   check_accepts flush a = tt
@@ -59,13 +60,16 @@ module _ (m : Meaning) (wide : checks.Allowed m) where
   check_apply (write b ws) a = checked_after m b ws (omega (arith, a.0, length-map m.cells (checked_cell (m.width - 1)))) a.1.0 (Ok tt)
   check_apply flush a = checked_flushed m
 
-module _ (n : ℕ) (m : Meaning) (within : quotas.Allowed n m) where
+module _ (n : ℕ) (m : Meaning) (within : quotas.Allowed n (shown_of m)) where
+  inside : n ≤ blocks_of m
+  inside = quotas.enough n m within
+
   pub quota_accepts : (o : Op) → Accepts (limited n m) o → Accepts m o
-  quota_accepts (write b ws) a = (omega (arith, a.0, limited_blocks n m within.1), a.1, a.2)
+  quota_accepts (write b ws) a = (omega (arith, a.0, limited_blocks n m inside), a.1, a.2)
   quota_accepts flush a = tt
 
   pub quota_apply : (o : Op) → Accepts (limited n m) o → limited n (apply o m) ≡ apply o (limited n m)
-  quota_apply (write b ws) a = limited_after n m within.1 b (omega (arith, a.0, limited_blocks n m within.1)) (Ok tt) ws
+  quota_apply (write b ws) a = limited_after n m inside b (omega (arith, a.0, limited_blocks n m inside)) (Ok tt) ws
   quota_apply flush a = limited_flushed n m
 
 module _ (m n : Meaning) (k : Alike m n) where
@@ -107,20 +111,16 @@ spent_few n h = grind (arith, nat_tests)
 
 pub apply_lawful : (o : Op) (m : Meaning) → Accepts m o → Lawful m → Lawful (apply o m)
 apply_lawful (write b ws) m a l = record {
-  some = omega (arith, l.some, length-set m.cells b (written_cell ws (cell_at m b)));
-  few = omega (arith, l.few, length-set m.cells b (written_cell ws (cell_at m b)));
-  broad = l.broad;
-  narrow = l.narrow;
+  limits = subst (λ n. Limits n m.width) (sym (length-set m.cells b (written_cell ws (cell_at m b)))) l.limits;
   cells = All-set (LawfulCell m.width) m.cells b (written_cell ws (cell_at m b)) (written_lawful m.width ws (cell_at m b) a.1 (All-get_or (LawfulCell m.width) m.cells b no_cell a.0 l.cells)) l.cells;
   left = spent_few m.left l.left;
+  left_mark = l.left_mark;
 }
 apply_lawful flush m a l = record {
-  some = omega (arith, l.some, length-map m.cells flushed_cell);
-  few = omega (arith, l.few, length-map m.cells flushed_cell);
-  broad = l.broad;
-  narrow = l.narrow;
+  limits = subst (λ n. Limits n m.width) (sym (length-map m.cells flushed_cell)) l.limits;
   cells = All-map (LawfulCell m.width) flushed_cell m.cells (All-weaker _ _ (flushed_lawful m.width) m.cells l.cells);
   left = l.left;
+  left_mark = l.left_mark;
 }
 
 pub width_apply : (o : Op) (m : Meaning) → (apply o m).width ≡ m.width
@@ -132,12 +132,13 @@ built_whole o (bottom m) b a = apply_lawful o m a b
 built_whole o (check p) b a =
     let a' = check_accepts (shows p) b.1 o a in (
       built_whole (handed o) p b.0 a',
-      subst checks.Allowed (sym (shows_whole (handed o) p b.0 a')) (omega (arith, b.1, width_apply (handed o) (shows p))),
+      subst (λ m. checks.Allowed (shown_of m)) (sym (shows_whole (handed o) p b.0 a')) (omega (arith, b.1, width_apply (handed o) (shows p))),
     )
 built_whole o (quota n p) b a =
     let a' = quota_accepts n (shows p) b.1 o a in (
       built_whole o p b.0 a',
-      subst (quotas.Allowed n) (sym (shows_whole o p b.0 a')) (b.1.0, omega (arith, b.1.1, blocks_apply o (shows p))),
+      subst (λ m. quotas.Allowed n (shown_of m)) (sym (shows_whole o p b.0 a'))
+      (b.1.0, omega (arith, quotas.enough n (shows p) b.1, blocks_apply o (shows p), count_shown (apply o (shows p)))),
     )
 built_whole o (mirror p q) b a =
     let a₁ = first_accepts (shows p) (shows q) b.2 o a in

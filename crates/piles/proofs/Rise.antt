@@ -2,7 +2,7 @@
 use Rattle.std.proofs.Common.{◌≡◌, ℕ, ◌-◌, ◌<◌, ◌≤◌, Bool, true, false, ◌&&◌, ◌||◌, List, [], sym, refl, ap, ap₂, ◌∙◌, subst, subst₂, ⊎_elim, arith}
 use Rattle.std.proofs.ByRecursion.{All-from_get_or, All-get_or}
 use Rattle.std.proofs.lemmas.List.{length-map}
-use Rattle.device.specs.Meaning.{Meaning, Cell, Lawful, LawfulCell, Cut, CutCell, Held, flushed, flushed_cell, no_cell, blocks_of, cell_at}
+use Rattle.device.specs.Meaning.{Meaning, Cell, Limits, Lawful, LawfulCell, Cut, CutCell, Held, flushed, flushed_cell, no_cell, blocks_of, cell_at}
 use Rattle.device.specs.Cuts.{Op, Op.write, Op.flush, apply}
 use Rattle.device.proofs.Choices.{blocks_apply}
 use Rattle.device.proofs.Cuts.{any, cut_again, cut_flushed, cut_unwritten, cut_unflushed}
@@ -25,20 +25,18 @@ flushes p b = shows_whole flush p b tt
 -- What a cut leaves of a lawful device is lawful.
 cell_cut : (w : ℕ) (c d : Cell) → LawfulCell w c → CutCell w c d → LawfulCell w d
 cell_cut w c d l k =
-    let h : Held w d.current = any w c d.current l k.from in
+    let h : Held w d.current = any w c.mark c d.current l k.from in
     record { persisted = subst (Held w) (sym k.equal) h; current = h; mark = omega (arith, k.mark); clean = λ e. k.equal }
 
 cut_lawful : (m n : Meaning) → Lawful m → Cut m n → Lawful n
 cut_lawful m n l k = record {
-  some = omega (arith, l.some, k.blocks);
-  few = omega (arith, l.few, k.blocks);
-  broad = omega (arith, l.broad, k.width);
-  narrow = omega (arith, l.narrow, k.width);
+  limits = subst₂ Limits (sym k.blocks) (sym k.width) l.limits;
   cells = All-from_get_or (LawfulCell n.width) n.cells no_cell (λ b h.
       let h' : b < blocks_of m = omega (arith, k.blocks) in
       subst (λ w. LawfulCell w (cell_at n b)) (sym k.width)
       (cell_cut m.width (cell_at m b) (cell_at n b) (All-get_or (LawfulCell m.width) m.cells b no_cell h' l.cells) (k.cells b h')));
   left = k.left;
+  left_mark = k.left_mark;
 }
 
 -- what a pile keeps whatever the cut: the shapes of its bottoms, which are lawful

@@ -1,6 +1,6 @@
 -- Piles of layers over bottom devices, as data: what they show, the bottom calls of a call, and cuts of the power.
 use Rattle.std.specs.Prelude.{◌≡◌, ℕ, ◌<◌, ◌≤◌, Bool, true, false, cond, ◌&&◌, ◌||◌, ◌⊎◌, List, ◌∷◌, []}
-use Rattle.device.specs.Meaning.{Meaning, Lawful, Words, Cut, blocks_of, flushed}
+use Rattle.device.specs.Meaning.{Meaning, Lawful, Words, Cut, blocks_of, shown_of, flushed}
 use Rattle.device.specs.Cuts.{Op, Op.write, Op.flush, apply}
 use Rattle.check_layer.specs.Checked.{checked, with_check, Allowed as Wide}
 use Rattle.quota.specs.Limited.{limited, Allowed as Within}
@@ -23,8 +23,8 @@ shows (mirror p q) = mirrored (shows p) (shows q)
 -- It is well built: each layer stands over what it is built over, and the sides of each mirror are alike.
 abbrev pub Built : Pile → Type 0
 Built (bottom m) = Lawful m
-Built (check p) = Built p × Wide (shows p)
-Built (quota n p) = Built p × Within n (shows p)
+Built (check p) = Built p × Wide (shown_of (shows p))
+Built (quota n p) = Built p × Within n (shown_of (shows p))
 Built (mirror p q) = Built p × Built q × Alike (shows p) (shows q)
 
 -- Something of each bottom. A bottom is named by the sides of mirrors that lead to it from the top: false for a first side, true
