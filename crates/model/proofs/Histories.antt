@@ -3,7 +3,7 @@ use Rattle.std.proofs.Common.{◌≡◌, ℕ, zero, suc, ◌+◌, ◌%◌, ◌<�
 use mathlib.Core.Path.{fun_ext}
 use lib.Dec.{eqb_refl}
 use Rattle.device.specs.Meaning.{Content, Content.words, Cell, Meaning, blocks_of, current_at, written_cell, written, cell_at}
-use Rattle.device.specs.Cuts.{Op, Op.write, Op.flush, Choice, Choice.old, Choice.new, Choice.other, Cutting, apply, replay, cut, cut_cell, remains}
+use Rattle.device.specs.Cuts.{Op, Op.write, Op.flush, Choice, Choice.persisted, Choice.current, Choice.other, Cutting, apply, replay, cut, cut_cell, remains}
 use Rattle.device.proofs.Choices.{cut_at, cut_blocks, flush_at, write_at, write_off, blocks_apply, blocks_replay, width_replay}
 use Rattle.page.specs.Slot.{Root, Table, slot_words}
 use Rattle.model.specs.declared.refusal.Refusal.{Refusal}
@@ -384,30 +384,30 @@ torn_fine t m κ B still fits = go (κ.choice s) refl
     here = cut_at κ (written m s ws) s ∙ ap (cut_cell (κ.choice s)) (write_at m s ws there)
 
     -- the slot is the old one
-    at_old : (k : Choice) (c : Cell) → k ≡ old → c.mark ≡ 0 → c.persisted ≡ c.current → cut_cell k (written_cell ws c) ≡ c
+    at_old : (k : Choice) (c : Cell) → k ≡ persisted → c.mark ≡ 0 → c.persisted ≡ c.current → cut_cell k (written_cell ws c) ≡ c
     at_old k c e z p =
         let f : remains (min (c.mark + 1) 2) k (written_cell ws c) ≡ c.persisted = ap₂ (λ n x. remains (min (n + 1) 2) x (written_cell ws c)) z e in
         λ i. record { persisted = f i; current = (f ∙ p) i; mark = sym z i }
 
-    same_old : κ.choice s ≡ old → (b : ℕ) → cell_at d b ≡ cell_at m b
+    same_old : κ.choice s ≡ persisted → (b : ℕ) → cell_at d b ≡ cell_at m b
     same_old e b =
         elim (cases_eq b s) [
           | inl q ↦ subst (λ x. cell_at d x ≡ cell_at m x) (sym q) (here ∙ at_old (κ.choice s) (cell_at m s) e (still s) (B.calm s (still s)))
           | inr ne ↦ off b ne
         ]
 
-    was : κ.choice s ≡ old → Fine (cut_model κ (model_of t m)) down d
+    was : κ.choice s ≡ persisted → Fine (cut_model κ (model_of t m)) down d
     was e =
         let R : List ℕ = 0 ∷ 1 ∷ Reaches (current_at m) t.committed in
         let ks : Keeps R m d = λ b h. same_old e b in
         (calm_cut κ (written m s ws), (t.generation, t.committed, kept_keeps m d t.generation t.committed eb refl ks B.kept, trees_same (current_at m) (current_at d) t.committed (keeps_in m d t.committed ks), refl, eb, refl, refl))
 
     -- the slot is the new one
-    at_new : (k : Choice) (c : Cell) → ((k ≡ new) ⊎ ((x : Content) × (k ≡ other x))) → c.mark ≡ 0 → (cut_cell k (written_cell ws c)).current ≡ words ws
+    at_new : (k : Choice) (c : Cell) → ((k ≡ current) ⊎ ((x : Content) × (k ≡ other x))) → c.mark ≡ 0 → (cut_cell k (written_cell ws c)).current ≡ words ws
     at_new k c (inl e) z = ap₂ (λ n x. remains (min (n + 1) 2) x (written_cell ws c)) z e
     at_new k c (inr e) z = ap₂ (λ n x. remains (min (n + 1) 2) x (written_cell ws c)) z e.1
 
-    is : ((κ.choice s ≡ new) ⊎ ((x : Content) × (κ.choice s ≡ other x))) → Fine (cut_model κ (finished (model_of t m))) down d
+    is : ((κ.choice s ≡ current) ⊎ ((x : Content) × (κ.choice s ≡ other x))) → Fine (cut_model κ (finished (model_of t m))) down d
     is e =
         let K = commit_kept t m d B fits eb refl (λ b. ap (λ c. c.mark) (cut_at κ (written m s ws) b))
         (ap (λ c. c.current) here ∙ at_new (κ.choice s) (cell_at m s) e (still s))
@@ -415,8 +415,8 @@ torn_fine t m κ B still fits = go (κ.choice s) refl
         (calm_cut κ (written m s ws), (suc t.generation, t.working, K.0, K.1, refl, eb, refl, refl))
 
     go : (k : Choice) → κ.choice s ≡ k → Fine (cut_model κ (landed k (model_of t m))) down d
-    go old e = was e
-    go new e = is (inl e)
+    go persisted e = was e
+    go current e = is (inl e)
     go (other x) e = is (inr (x, e))
 
 -- power fails between two calls

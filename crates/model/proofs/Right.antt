@@ -3,7 +3,7 @@ use Rattle.std.proofs.Common.{◌≡◌, ℕ, zero, suc, ◌%◌, Bool, true, fa
 use mathlib.Core.Path.{fun_ext}
 use Rattle.std.specs.Option.{option_or}
 use Rattle.device.specs.Meaning.{Meaning}
-use Rattle.device.specs.Cuts.{Op, Choice, Choice.old, Choice.new, Choice.other, Cutting, replay, cut}
+use Rattle.device.specs.Cuts.{Op, Choice, Choice.persisted, Choice.current, Choice.other, Cutting, replay, cut}
 use Rattle.page.specs.Slot.{Root}
 use Rattle.model.specs.declared.refusal.Refusal.{Refusal}
 use Rattle.model.specs.Plain as plain
@@ -116,8 +116,8 @@ plain_broken finish zero κ M = refl
 plain_broken finish (suc zero) κ M = go (κ.choice (suc M.generation % 2))
   where
     go : (x : Choice) → (plain_m (landed x M) ≡ plain_m M) ⊎ (plain_m (landed x M) ≡ plain.finished (plain_m M))
-    go old = inl refl
-    go new = inr refl
+    go persisted = inl refl
+    go current = inr refl
     go (other y) = inr refl
 plain_broken finish (suc (suc k)) κ M = inr refl
 plain_broken reopen k κ M = refl

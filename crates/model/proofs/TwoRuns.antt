@@ -2,7 +2,7 @@
 use Rattle.std.proofs.Common.{◌≡◌, ℕ, zero, suc, ◌%◌, Bool, true, false, cond, not, ◌||◌, T, ltb, ◌⊎◌, List, [], ◌∷◌, map, get_or, take, set, ℤ, pos, negsuc, Some, None, Option, sym, refl, ap, ◌∙◌, subst, ap₂, inl, inr, eqb→eq}
 use Rattle.std.specs.Option.{option_or}
 use Rattle.device.specs.Meaning.{Meaning, spent}
-use Rattle.device.specs.Cuts.{Choice, Choice.old, Choice.new, Choice.other, Cutting, replay, cut}
+use Rattle.device.specs.Cuts.{Choice, Choice.persisted, Choice.current, Choice.other, Cutting, replay, cut}
 use Rattle.page.specs.Slot.{Root}
 use Rattle.table.specs.Rows.{off_angle, payload_of}
 use Rattle.table.specs.Angles.{angle_at}
@@ -342,8 +342,8 @@ module _ (V : Type 0) (join : ℕ → Map → V) where
 
   -- the cuts
   rel_landed : (k : Choice) (μ : Marks) (M N : Model) → Rel μ M N → (ν : Marks) × ((ν ≡ μ) ⊎ (ν ≡ finished_marks μ)) × Rel ν (landed k M) (landed k N)
-  rel_landed old μ M N R = (μ, inl refl, R)
-  rel_landed new μ M N R = (finished_marks μ, inr refl, rel_finished μ M N R)
+  rel_landed persisted μ M N R = (μ, inl refl, R)
+  rel_landed current μ M N R = (finished_marks μ, inr refl, rel_finished μ M N R)
   rel_landed (other y) μ M N R = (finished_marks μ, inr refl, rel_finished μ M N R)
 
   rel_broken : (x : Both) (k : ℕ) (κ : Cutting) (μ : Marks) (M N : Model) → Rel μ M N → (ν : Marks) × Remain x μ ν × Rel ν (broken M (one x) k κ) (broken N (two x) k κ)

@@ -3,7 +3,7 @@ use Rattle.std.specs.Prelude.{ℕ, zero, suc, ◌+◌, ◌-◌, ◌*◌, ◌%◌
 use Rattle.std.specs.Option.{option_or}
 use Rattle.device.specs.declared.LayerMark.{LayerMark}
 use Rattle.device.specs.Meaning.{spent}
-use Rattle.device.specs.Cuts.{Cutting, Choice, Choice.old, Choice.new, Choice.other}
+use Rattle.device.specs.Cuts.{Cutting, Choice, Choice.persisted, Choice.current, Choice.other}
 use Rattle.model.specs.declared.refusal.Refusal.{Refusal}
 use Rattle.model.specs.declared.refusal.Refusal.TheVariants.{Short, Worn, Last}
 use Rattle.model.specs.Plain.{Map, Maps, Ask, Call, Answer, place, has, first, early, answer}
@@ -114,10 +114,10 @@ finished M = record { working = M.working; committed = M.working; generation = s
 abbrev pub cut_model : Cutting → Model → Model
 cut_model κ M = record { working = M.working; committed = M.committed; generation = M.generation; blocks = M.blocks; left = κ.left; layer = κ.left_mark }
 
--- a finish cut after its write holds if the cut leaves the slot's new content
+-- a finish cut after its write holds if the cut leaves the slot's current content
 abbrev pub landed : Choice → Model → Model
-landed old M = M
-landed new M = finished M
+landed persisted M = M
+landed current M = finished M
 landed (other x) M = finished M
 
 abbrev pub broken : Model → Call → ℕ → Cutting → Model

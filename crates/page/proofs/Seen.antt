@@ -3,7 +3,8 @@ use Rattle.std.proofs.Common.{◌≡◌, ℕ, zero, suc, ◌+◌, ◌*◌, ◌/�
 use Rattle.std.proofs.lemmas.List.{get_or-drop, get_or_past, length-take-le, length-append}
 use Rattle.std.proofs.lemmas.Bool.{cases_lt, false≢true, and_parts, leb-true, ltb-true, eq-eqb, ne_eqb}
 use Rattle.device.specs.declared.Layer.{Layer}
-use Rattle.device.specs.Meaning.{Meaning, Content, Cell, words, damaged, current_at, blocks_of, no_cell, reading, held}
+use Rattle.device.specs.Meaning.{Meaning, Shown, Content, Cell, words, damaged, current_at, blocks_of, no_cell, shown_of, reading, held}
+use Rattle.device.specs.Showing.{count_shown, content_shown}
 use Rattle.device.proofs.Calls.{reading_at}
 use Rattle.page.specs.Block.{Block, pairs, read, encode, same, fits, decode, block_in, block_at}
 use Rattle.page.specs.Readable.{Readable}
@@ -77,7 +78,7 @@ that (Some x) h = (x, refl)
 pub record Standing (l : Layer) (m : Meaning) (b n : ℕ) : Type 0 where
   pub ws : List ℕ
   pub node : Block
-  pub answer : reading l m b n ≡ Ok ws
+  pub answer : reading l (shown_of m) b n ≡ Ok ws
   pub holds : block_at m b ≡ Some node
   pub decoded : Decoded ws node
 
@@ -90,10 +91,13 @@ standing l m b n e h =
     record {
       ws = w.0;
       node = x.0;
-      answer = reading_at l m b n e on ∙ ap held w.1;
+      answer = reading_at l (shown_of m) b n e (omega (arith, on, count_shown m)) ∙ ap (λ (f : ℕ → Content). held (f b)) (content_shown m) ∙ ap held w.1;
       holds = x.1;
       decoded = decoded w.0 x.0 (sym (ap block_in w.1) ∙ x.1);
     }
+
+pub seen_answer : (l : Layer) (m : Meaning) (b n : ℕ) (x : Standing l m b n) (s : Shown) → s ≡ shown_of m → reading l s b n ≡ Ok x.ws
+seen_answer l m b n x s e = ap (λ y. reading l y b n) e ∙ x.answer
 
 -- the first entry of a speed
 pub look_hit : (s : ℕ) (es : List (ℕ × ℕ)) (i : ℕ) → i < length es → ((k : ℕ) → k < i → s ≡ (get_or es k (0, 0)).0 → ⊥) → s ≡ (get_or es i (0, 0)).0 → look s es ≡ Some (get_or es i (0, 0)).1

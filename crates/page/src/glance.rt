@@ -1,5 +1,5 @@
 // A tree block as the words of its block, to be read: an entry is taken from its two words when it is asked for.
-ghost use Rattle.std.specs.Prelude.{◌≡◌, ℕ, suc, ◌<◌, ◌≤◌, true, is_some, length, Some, slice_index_or};
+ghost use Rattle.std.specs.Prelude.{◌≡◌, ℕ, suc, ◌<◌, ◌≤◌, true, [], is_some, length, Some, slice_index_or};
 ghost use Rattle.device.specs.Meaning.{words};
 ghost use Rattle.page.specs.Block.{block_at};
 ghost use Rattle.page.specs.Io.{Wide};
@@ -8,7 +8,7 @@ ghost use Rattle.tree.specs.Reads.{look};
 
 use super::page::{Entry, Page};
 use arrayvec::ArrayVec;
-use device::Device;
+use device::{Device, Reader};
 use std::marker::Model;
 use word::payload;
 
@@ -42,6 +42,7 @@ impl PageWords {
         requires wide { Wide (D.Device.meaning device.old) }
         requires stands { is_some (block_at (D.Device.meaning device.old) block) ≡ true }
         ensures same { D.Device.meaning device.new ≡ D.Device.meaning device.old }
+        ensures calls { D.Device.led [] device.old device.new }
         ensures page { block_at (D.Device.meaning device.old) block ≡ Some self.new }
     {
         let width = device.width() as usize;
