@@ -176,7 +176,7 @@ module _ (m : Meaning) (cs gs : List ℕ) (n : Block) (s : ℕ) where
                     right_in = omega (arith, r₁.counts, r₂.counts, pr.1, y);
                     right_free = ap (λ (b : ℕ). get_or q₂.1 b 0) y ∙ far (get_or gs (2 * l + 1) 0) (λ i lt e. p.free.apart i (2 * l + 1) (omega arith) (omega arith) (sym e)) (p.free.count (2 * l + 1) (omega arith));
                     apart = λ e. p.free.apart (2 * l) (2 * l + 1) (omega arith) (omega arith) (sym x ∙ e ∙ y);
-                    few = omega (arith, r₁.counts, r₂.counts, P.shape.sized, P.shape.lawful.few);
+                    few = omega (arith, r₁.counts, r₂.counts, P.shape.sized, P.shape.lawful.limits.few);
                   };
                   level = ap (λ (x : Block). x.level) M.is ∙ sym (ap (λ (x : Block). x.level) (child_is l es p));
                   above = omega (arith, ap (λ (x : Block). x.level) (child_is l es p), ap (λ (x : Block). x.level) p.is);

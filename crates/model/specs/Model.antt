@@ -114,7 +114,7 @@ finished M = record { working = M.working; committed = M.working; generation = s
 abbrev pub cut_model : Cutting → Model → Model
 cut_model κ M = record { working = M.working; committed = M.committed; generation = M.generation; blocks = M.blocks; left = κ.left; layer = κ.left_mark }
 
--- a finish cut after its write holds if the cut leaves the slot's new content
+-- a finish cut after its write holds if the cut leaves the slot's current content
 abbrev pub landed : Choice → Model → Model
 landed persisted M = M
 landed current M = finished M

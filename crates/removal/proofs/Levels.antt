@@ -178,7 +178,7 @@ module _ (m : Meaning) (cs : List ℕ) (n : Block) (s l : ℕ) (es : List (ℕ �
               right_in = omega (arith, b.1, z₂.counts, right_is);
               right_free = ap (λ (x : ℕ). get_or q₂.1 x 0) right_is ∙ far (2 * l + 1) (omega arith) (omega arith);
               apart = λ e. free.apart (2 * l) (2 * l + 1) (omega arith) (omega arith) (sym left_is ∙ e ∙ right_is);
-              few = omega (arith, h.sized, h.lawful.few, z₁.counts, z₂.counts);
+              few = omega (arith, h.sized, h.lawful.limits.few, z₁.counts, z₂.counts);
             };
           }
 

@@ -11,7 +11,7 @@ pub link-requires-clause-free : goal.link-requires-clause-free
 link-requires-clause-free g c = (leaf_spare _ _ _ c.requires.granted _ _ c.take-block.ensures).2
 
 pub invariant_of-result : goal.invariant_of-result
-invariant_of-result g c = record { small = (omega arith, omega (arith, (leaf_spare _ _ _ c.requires.granted _ _ c.take-block.ensures).1, c.requires.granted.shape.lawful.few)) }
+invariant_of-result g c = record { small = (omega arith, omega (arith, (leaf_spare _ _ _ c.requires.granted _ _ c.take-block.ensures).1, c.requires.granted.shape.lawful.limits.few)) }
 
 pub returns : goal.returns
 returns g c =

@@ -31,7 +31,7 @@ retain-requires-clause-room g c =
     let f : Rooted (blocks_of m) r = rooted_parts (blocks_of m) r (sym (ap (λ p. rooted (blocks_of m) (root_of p)) c.in-Some.is) ∙ c.requires.rooted) in
     let k : fault_of (blocks_of m) (current_at m) r ≡ None = passes_none c.args.clone _ (c.in_ok-walk.ensures.answer ∙ ap (λ (x : Due). passes x.clone (first_fault m x)) c.root_due.ensures) in
     let e : c.walk.new.store.1 ≡ tallied m (top_level r.0) r.1 cs = c.in_ok-walk.ensures.counts ∙ ap (λ (x : Due). tallied m x.level x.block cs) c.root_due.ensures in
-    subst (λ xs. get_or xs r.1 0 < 65535) (sym e) (walked_small m cs r c.requires.ready f.high f.within k (omega (arith, c.walk.ensures.shape.sized, c.walk.ensures.shape.lawful.few)))
+    subst (λ xs. get_or xs r.1 0 < 65535) (sym e) (walked_small m cs r c.requires.ready f.high f.within k (omega (arith, c.walk.ensures.shape.sized, c.walk.ensures.shape.lawful.limits.few)))
 
 pub returns-clause-answer : goal.returns-clause-answer
 returns-clause-answer g c =

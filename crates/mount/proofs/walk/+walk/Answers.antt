@@ -19,7 +19,7 @@ returns-in_err-load-clause-answer g t c =
 pub meet-first-requires-clause-small : goal.meet-first-requires-clause-small
 meet-first-requires-clause-small g t c =
     let b = c.args.due.block in λ k.
-    subst (λ (q : State). get_or q.1 b 0 < 65535) (sym c.load.ensures.kept) (count_small c.args.store.now.0 c.args.store.now.1 (b ∷ []) b (omega (arith, c.load.ensures.shape.sized, c.load.ensures.shape.lawful.few)) (c.requires.room k))
+    subst (λ (q : State). get_or q.1 b 0 < 65535) (sym c.load.ensures.kept) (count_small c.args.store.now.0 c.args.store.now.1 (b ∷ []) b (omega (arith, c.load.ensures.shape.sized, c.load.ensures.shape.lawful.limits.few)) (c.requires.room k))
 
 -- the block was met: what then holds of the flag and the counts
 met_first : (s q : State) (b : ℕ) (counting first : Bool) → q ≡ s → first ≡ (counting && eqb (get_or q.1 b 0) 0) → first ≡ (counting && eqb (get_or s.1 b 0) 0)
