@@ -1,5 +1,5 @@
 -- A tree of one empty leaf.
-use Rattle.std.proofs.Common.{◌≡◌, ℕ, ◌+◌, List, [], ◌∷◌, get_or, sym, ap, ◌∙◌, subst, ap₂, arith}
+use Rattle.std.proofs.Common.{◌≡◌, ℕ, ◌+◌, List, [], ◌∷◌, get_or, sym, refl, ap, ◌∙◌, subst, ap₂, arith}
 use Rattle.device.specs.Meaning.{Meaning, Cell, current_at, written}
 use Rattle.device.proofs.Choices.{write_at}
 use Rattle.page.specs.Block.{Block, block_at, block_in, encode, Layout}
@@ -56,7 +56,7 @@ module _ (m : Meaning) (cs gs : List ℕ) (G : Granted 1 (m, cs) gs) (x : ℕ) (
       subst (λ (z : State). Edited begin bare_tree (m, cs) z) (sym to) (record {
         os = ops m.width vs;
         trace = run_replay vs q₀;
-        free = ops_free m cs m.width vs (A, tt);
+        free = ops_free m cs m.width vs refl (laid, tt) (A, tt);
         once = once;
         stored = subst (model.Stored (current_at (run vs q₀).0)) new there;
         counted = λ h c. subst (λ (v : model.Tree). Counted (block_at (run vs q₀).0) (run vs q₀).1 (λ b. one v.1.0 b + h b)) new

@@ -8,7 +8,7 @@ use Rattle.tree.proofs.Laid.{same_rule}
 use Rattle.page.specs.Slot.{Root}
 use Rattle.counts.specs.Counts.{spare, free_blocks}
 use Rattle.counts.specs.Moves.{Shaped}
-use Rattle.model.specs.TreeBlocks.{Tree, Change, Change.begin, Change.puts, bare_tree, changed_on, top_level, tree_at, root_of, Stored, Each, Fit, Good}
+use Rattle.model.specs.TreeBlocks.{Tree, Change, Change.begin, Change.puts, bare_tree, changed_on, tree_at, root_of, Stored, Each, Fit, Good}
 use Rattle.model.proofs.TreeLaws.{tree_stored, grow_fit, begin_fit}
 use Rattle.edit.specs.Kept.{Free}
 use Rattle.edit.specs.Edited.{Editable, Granted, Edited}

@@ -1,14 +1,15 @@
 -- The writes of moves: they go to places of the grant.
 use Rattle.std.proofs.Common.{◌≡◌, ℕ, zero, suc, ◌+◌, ◌*◌, ◌<◌, ◌≤◌, Bool, true, false, cond, eqb, ltb, List, [], ◌∷◌, ◌++◌, length, get_or, take, drop, sym, refl, ap, subst, arith}
 use Rattle.std.proofs.ByRecursion.{All-append}
-use Rattle.device.specs.Meaning.{Meaning, blocks_of}
+use Rattle.device.specs.Meaning.{Meaning, Words, blocks_of}
 use Rattle.device.specs.Cuts.{Op, Op.write, replay}
 use Rattle.tree.specs.Node.{first, ahead, map_e}
 use Rattle.tree.specs.Tree.{Pay}
 use Rattle.page.specs.Block.{encode}
-use Rattle.counts.specs.Moves.{Move, opening, linking, State, step, run}
+use Rattle.counts.specs.Moves.{Move, opening, linking, State, step, run, Laid}
 use Rattle.model.specs.TreeBlocks.{Each}
 use Rattle.model.specs.World.{targets}
+use Rattle.model.proofs.Encoded.{encoded}
 use Rattle.edit.specs.Plan.{shallow, chosen, parted, placed, links, down, kid_n, put_n, kid_moves, moves}
 use Rattle.edit.specs.Edited.{WritesFree}
 
@@ -39,10 +40,11 @@ ops_targets w [] = refl
 ops_targets w (opening x ∷ vs) = ops_targets w vs
 ops_targets w (linking x n ∷ vs) = ap (λ (z : List ℕ). x ∷ z) (ops_targets w vs)
 
-pub ops_free : (m : Meaning) (cs : List ℕ) (w : ℕ) (vs : List Move) → Each (λ b. (2 ≤ b) × (b < blocks_of m) × (get_or cs b 0 ≡ 0)) (linked vs) → Each (WritesFree (m, cs)) (ops w vs)
-ops_free m cs w [] p = tt
-ops_free m cs w (opening x ∷ vs) p = ops_free m cs w vs p
-ops_free m cs w (linking x n ∷ vs) p = (p.0, ops_free m cs w vs p.1)
+pub ops_free : (m : Meaning) (cs : List ℕ) (w : ℕ) (vs : List Move) → w ≡ m.width → Laid w vs → Each (λ b. (2 ≤ b) × (b < blocks_of m) × (get_or cs b 0 ≡ 0)) (linked vs)
+    → Each (WritesFree (m, cs)) (ops w vs)
+ops_free m cs w [] e l p = tt
+ops_free m cs w (opening x ∷ vs) e l p = ops_free m cs w vs e l.1 p
+ops_free m cs w (linking x n ∷ vs) e l p = ((p.0.0, p.0.1, p.0.2, subst (λ v. Words v (encode w n)) e (encoded w n l.0)), ops_free m cs w vs e l.1 p.1)
 
 -- what holds of the first 2l places of the grant holds of each block that put's moves below level l write
 module _ (gs : List ℕ) (N : ℕ → Type 0) where

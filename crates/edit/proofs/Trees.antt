@@ -10,7 +10,7 @@ use Rattle.page.specs.Block.{Block, block_at, block_in, Layout}
 use Rattle.page.specs.Io.{Wide}
 use Rattle.page.specs.Slot.{Root}
 use Rattle.counts.specs.Counts.{one, occ, Counted, free_blocks}
-use Rattle.counts.specs.Moves.{Move, linking, State, step, run}
+use Rattle.counts.specs.Moves.{Move, linking, State, step, run, Laid}
 use Rattle.counts.proofs.Opens.{recount}
 use Rattle.model.specs.TreeBlocks as model
 use Rattle.model.specs.TreeBlocks.{Change, Change.puts, changed_on, new_blocks, block_of, root_of, Each}
@@ -19,7 +19,7 @@ use Rattle.edit.specs.Plan.{page, node_of, kids, Stored, chosen, parted, placed,
 use Rattle.edit.specs.Able.{Ready, Able, Made}
 use Rattle.edit.specs.Kept.{Free, Stands}
 use Rattle.edit.specs.Edited.{given_up, Edited}
-use Rattle.edit.proofs.States.{same_by, run_same, run_append}
+use Rattle.edit.proofs.States.{same_by, run_same, run_append, laid_append}
 use Rattle.edit.proofs.Anyhow.{moves_writes}
 use Rattle.edit.proofs.Keeps.{keeps, link_counted, link_stored}
 use Rattle.edit.proofs.Traces.{linked, linked_append, ops, run_replay, ops_targets, ops_free, moves_each, each_linked}
@@ -52,17 +52,17 @@ Spare m cs b = (2 ≤ b) × (b < blocks_of m) × (get_or cs b 0 ≡ 0)
 
 -- moves that leave the tree v, which the change d makes of r
 pub edited_by : (m : Meaning) (cs : List ℕ) (d : Change ℕ) (r : model.Tree) (h : ℕ → ℕ) → Counted (block_at m) cs (λ b. given_up d r b + h b)
-    → (v : model.Tree) (vs : List Move) → v ≡ changed_on ℕ d (free_blocks cs) r → Each (Spare m cs) (linked vs) → ((b : ℕ) → occ b (linked vs) ≡ occ b (new_blocks d (free_blocks cs) r))
+    → (v : model.Tree) (vs : List Move) → v ≡ changed_on ℕ d (free_blocks cs) r → Each (Spare m cs) (linked vs) → Laid m.width vs → ((b : ℕ) → occ b (linked vs) ≡ occ b (new_blocks d (free_blocks cs) r))
     → Stored (block_at (run vs (m, cs)).0) (suc v.0) v.1 → Counted (block_at (run vs (m, cs)).0) (run vs (m, cs)).1 (λ b. one v.1.0 b + h b)
     → (q : State) → q ≡ run vs (m, cs) → Edited d r (m, cs) q
-edited_by m cs d r h old v vs e free once st ct q eq =
+edited_by m cs d r h old v vs e free laid once st ct q eq =
     let z : State = run vs (m, cs) in
     let u : model.Tree = changed_on ℕ d (free_blocks cs) r in
     let cu : Counted (block_at z.0) z.1 (λ b. one u.1.0 b + h b) = subst (λ (v : model.Tree). Counted (block_at z.0) z.1 (λ b. one v.1.0 b + h b)) e ct in
     subst (λ (z : State). Edited d r (m, cs) z) (sym eq) (record {
       os = ops m.width vs;
       trace = run_replay vs (m, cs);
-      free = ops_free m cs m.width vs free;
+      free = ops_free m cs m.width vs refl laid free;
       once = λ b. ap (occ b) (ops_targets m.width vs) ∙ once b;
       stored = subst (model.Stored (current_at z.0)) e (to_model z.0 v st);
       counted = λ h' c. recount (λ b. one u.1.0 b + h b) (λ b. one u.1.0 b + h' b) (λ b. omega (arith, c.eqn b, old.eqn b)) cu;
@@ -217,7 +217,7 @@ module _ (m : Meaning) (cs gs : List ℕ) (root : Root) (s : ℕ) (r : model.Tre
             let q₁ : State = run ms q₀ in
             let st : Every (Stored (block_at q₁.0) (suc l)) (o ∷ []) = subst (Every (Stored (block_at q₁.0) (suc l))) one_is S.stored in
             let ct : Counted (block_at q₁.0) q₁.1 (λ b. occ b (kids (suc l) (o ∷ [])) + h b) = subst (λ (z : List (ℕ × Tree ℕ ℕ l)). Counted (block_at q₁.0) q₁.1 (λ b. occ b (kids (suc l) z) + h b)) one_is S.counted in
-            edited_by m cs (puts s a) r h p.counted (l, o.1) ms u_one (moves_each gs (Spare m cs) s a (suc l) es (λ j lt. spare j (omega arith)))
+            edited_by m cs (puts s a) r h p.counted (l, o.1) ms u_one (moves_each gs (Spare m cs) s a (suc l) es (λ j lt. spare j (omega arith))) M.laid
             (λ c. root_one (λ i. get_or (free_blocks cs) i 0) gs s a r p.lowest c (omega (arith, len)))
             st.0 (recount (λ b. occ b (kids (suc l) (o ∷ [])) + h b) (λ b. one o.1.0 b + h b) (λ b. omega arith) ct) q M.state
 
@@ -264,6 +264,7 @@ module _ (m : Meaning) (cs gs : List ℕ) (root : Root) (s : ℕ) (r : model.Tre
             let to : q' ≡ q₂ = e' ∙ ap (λ (n : Block). step (linking x n) q) M.is ∙ ap (step (linking x (node_of (suc l) us))) M.state in
             edited_by m cs (puts s a) r h p.counted (suc l, (x, us)) (ms ++ top) u_more
             (each_linked gs (Spare m cs) ms top (moves_each gs (Spare m cs) s a (suc l) es (λ j lt. spare j (omega arith))) (subst (Spare m cs) (sym x-is) (spare (2 * suc l) (omega arith)), tt))
+            (laid_append m.width ms top M.laid (subst (λ w. Layout w (node_of (suc l) us)) z.width ly, tt))
             (λ c. ap (occ c) (linked_append ms top ∙ ap (λ (y : ℕ). linked ms ++ y ∷ []) x-is) ∙ root_more (λ i. get_or (free_blocks cs) i 0) gs s a r p.lowest c (omega (arith, len)))
             (subst (λ (y : State). Stored (block_at y.0) (suc (suc l)) (x, us)) (sym end) (link_stored q₁ x (suc l) us h still_free wx ox ly S.stored S.counted))
             (subst (λ (y : State). Counted (block_at y.0) y.1 (λ b. one x b + h b)) (sym end) (link_counted q₁ x (suc l) us h still_free wx ox ly S.stored S.counted))

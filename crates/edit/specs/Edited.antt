@@ -1,6 +1,6 @@
 -- A change of one tree on a counted device: what the code needs, and what it leaves.
 use Rattle.std.specs.Prelude.{◌≡◌, ℕ, ◌+◌, ◌<◌, ◌≤◌, List, length, take, slice_index}
-use Rattle.device.specs.Meaning.{blocks_of, current_at}
+use Rattle.device.specs.Meaning.{Words, blocks_of, current_at}
 use Rattle.device.specs.Cuts.{Op, Op.write, Op.flush, replay}
 use Rattle.page.specs.Block.{block_at}
 use Rattle.page.specs.Slot.{Root}
@@ -23,9 +23,9 @@ pub record Granted (n : ℕ) (q : State) (grant : List ℕ) : Type 0 where
   pub enough : n ≤ length (free_blocks q.1)
   pub left : n ≤ q.0.left
 
--- a write to a tree block that nothing refers to
+-- a write of a block's words to a tree block that nothing refers to
 abbrev pub WritesFree : State → Op → Type 0
-WritesFree q (write b ws) = (2 ≤ b) × (b < blocks_of q.0) × (slice_index q.1 b ≡ 0)
+WritesFree q (write b ws) = (2 ≤ b) × (b < blocks_of q.0) × (slice_index q.1 b ≡ 0) × Words q.0.width ws
 WritesFree q flush = ⊥
 
 -- the reference to the tree before, which a change gives up

@@ -1,15 +1,16 @@
 -- Worked figures, as equations on the definitions that contracts cite.
-use Rattle.std.specs.Prelude.{◌≡◌, ℕ, true, false, List, [], ◌∷◌, ℤ, pos, negsuc, Some, None, Ok, Err}
+use Rattle.std.specs.Prelude.{◌≡◌, ℕ, true, false, List, [], ◌∷◌, ℤ, pos, negsuc, Some, Ok, Err, Option}
 use Rattle.table.specs.declared.row.RowFault.TheVariants.{Speed, Angle}
 use Rattle.table.specs.Rows.{checked_row, payload_of, fault_number}
 use Rattle.table.specs.Angles.{angle_at}
 use Rattle.page.specs.Block.{flat, value_kind}
 use Rattle.page.specs.Slot.{Table, if_stands}
 use Rattle.check_layer.specs.Checked.{check_of}
-use Rattle.model.specs.declared.refusal.Refusal.TheVariants.{Absent, Taken}
+use Rattle.model.specs.declared.refusal.Refusal.TheVariants.{Absent, Taken, NoVolume}
 use Rattle.model.specs.Numbers.{number}
 use Rattle.model.specs.Plain.{Ask.clone, early}
-use Rattle.model.specs.World.{latest}
+use Rattle.model.specs.Walk.{Fault}
+use Rattle.model.specs.World.{latest, walked}
 
 -- rows 400 → −100 and 1200 → 250
 abbrev pub two : List (ℕ × ℤ)
@@ -42,8 +43,10 @@ pub record Figures : Type 0 where
   pub clone_absent : early (λ n. false) (clone 5 5) ≡ Some Absent
   pub taken_number : number Taken ≡ 9
   pub absent_number : number Absent ≡ 8
-  -- slots of generations 4, 5: 5 is used; 6, 5: 6; 4, 7: none; 5 in block 0: none
+  -- slots of generations 4, 5: 5 is used; 6, 5: 6
   pub slots_4_5 : (t u : Table) → latest (Some (4, t)) (Some (5, u)) ≡ Some (5, u)
   pub slots_6_5 : (t u : Table) → latest (Some (6, t)) (Some (5, u)) ≡ Some (6, t)
-  pub slots_4_7 : (t u : Table) → latest (Some (4, t)) (Some (7, u)) ≡ None
-  pub slots_5_4 : (n : ℕ) (t : Table) → if_stands n 0 (Some (5, t)) ≡ None
+  -- slots of generations 4, 7 or 5, 4: refused, whatever the walk would find
+  pub slots_4_7 : (f : Table → Option (ℕ × Fault)) (t u : Table) → walked f (latest (Some (4, t)) (Some (7, u))) ≡ Err NoVolume
+  pub slots_5_4 : (f : Table → Option (ℕ × Fault)) (n : ℕ) (t u : Table) → walked f (latest (if_stands n 0 (Some (5, t))) (if_stands n 1 (Some (4, u)))) ≡ Err NoVolume
+  pub no_volume_number : number NoVolume ≡ 13

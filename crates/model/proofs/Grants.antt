@@ -26,7 +26,7 @@ pub tall : (h : ℕ) → 1 ≤ h → suc (top_level h) ≡ h
 tall zero h = absurd (omega arith)
 tall (suc l) h = refl
 
-first_none : (p : Bool) (r : Refusal) (ts : List (Bool × Refusal)) → first ((p, r) ∷ ts) ≡ None → (p ≡ false) × (first ts ≡ None)
+pub first_none : (p : Bool) (r : Refusal) (ts : List (Bool × Refusal)) → first ((p, r) ∷ ts) ≡ None → (p ≡ false) × (first ts ≡ None)
 first_none true r ts e = absurd (some_none r e)
 first_none false r ts e = (refl, e)
 
@@ -128,6 +128,11 @@ module _ (t : Tables) (m : Meaning) (z : sizes (blocks_of m) m.width ≡ true) (
   pub enough : (n k : ℕ) → needs S n k ≡ None → k ≤ length (free S)
   enough n k e = ltb-false (length (free S)) k (first_none (ltb (length (free S)) k) Short ((ltb S.left k, Worn (Some n) S.layer) ∷ []) e).0
 
+  pub enough_left : (n k : ℕ) → needs S n k ≡ None → k ≤ S.left
+  enough_left n k e =
+      let p = first_none (ltb (length (free S)) k) Short ((ltb S.left k, Worn (Some n) S.layer) ∷ []) e in
+      ltb-false S.left k (first_none (ltb S.left k) (Worn (Some n) S.layer) [] p.1).0
+
   level_at : (r : Root) → Good (blocks_of m) (current_at m) r → suc (tree_at (current_at m) r).0 ≡ r.0
   unfolding tree_at
   level_at r g = tall r.0 g.height
@@ -138,6 +143,7 @@ module _ (t : Tables) (m : Meaning) (z : sizes (blocks_of m) m.width ≡ true) (
     pub sound : Fit (blocks_of m) (tree_of M n)
     pub allowed : Allowed d
     pub room : needed d (tree_of M n) ≤ length (free S)
+    pub spare : needed d (tree_of M n) ≤ S.left
 
   pub put_start : (n s : ℕ) (a : ℤ) → refusal S (put n s a) ≡ None → Start n (puts s (payload_of a)) × (off_angle a ≡ false)
   put_start n s a e =
@@ -149,10 +155,11 @@ module _ (t : Tables) (m : Meaning) (z : sizes (blocks_of m) m.width ≡ true) (
       let R = rooted_at n (not_false (has S.working n) p4.0) in
       let sp : s ≤ 9999 = ltb-false 9999 s p2.0 in
       let en : 2 * height S n + 1 ≤ length (free S) = enough n (2 * height S n + 1) p.1 in
+      let el : 2 * height S n + 1 ≤ S.left = enough_left n (2 * height S n + 1) p.1 in
       let lv = level_at R.root R.good in
       let hi = R.high in
       let tr : (tree_of M n).0 ≡ (tree_at (current_at m) R.root).0 = ap (λ (x : Tree). x.0) R.tree in
-      (record { rooted = R; sound = subst (Fit (blocks_of m)) (sym R.tree) R.good.fit; allowed = (omega arith, payload_range a p3.0); room = omega arith }, p3.0)
+      (record { rooted = R; sound = subst (Fit (blocks_of m)) (sym R.tree) R.good.fit; allowed = (omega arith, payload_range a p3.0); room = omega arith; spare = omega arith }, p3.0)
 
   pub remove_start : (n s : ℕ) → refusal S (remove n s) ≡ None → holds S n s ≡ true → Start n (takes s)
   remove_start n s e h =
@@ -162,11 +169,13 @@ module _ (t : Tables) (m : Meaning) (z : sizes (blocks_of m) m.width ≡ true) (
       let p4 = first_none (not (has S.working n)) Absent [] p2.1 in
       let R = rooted_at n (not_false (has S.working n) p4.0) in
       let sp : s ≤ 9999 = ltb-false 9999 s p2.0 in
-      let en : 2 * height S n + 1 ≤ length (free S) = enough n (2 * height S n + 1) (subst (λ k. cond k (needs S n (2 * height S n + 1)) None ≡ None) h p.1) in
+      let due = subst (λ k. cond k (needs S n (2 * height S n + 1)) None ≡ None) h p.1 in
+      let en : 2 * height S n + 1 ≤ length (free S) = enough n (2 * height S n + 1) due in
+      let el : 2 * height S n + 1 ≤ S.left = enough_left n (2 * height S n + 1) due in
       let lv = level_at R.root R.good in
       let hi = R.high in
       let tr : (tree_of M n).0 ≡ (tree_at (current_at m) R.root).0 = ap (λ (x : Tree). x.0) R.tree in
-      record { rooted = R; sound = subst (Fit (blocks_of m)) (sym R.tree) R.good.fit; allowed = omega arith; room = omega arith }
+      record { rooted = R; sound = subst (Fit (blocks_of m)) (sym R.tree) R.good.fit; allowed = omega arith; room = omega arith; spare = omega arith }
 
   -- the new tree is sound, and has the rows that the plain tables say
   pub create_fit : (n : ℕ) → refusal S (create n) ≡ None → Fit (blocks_of m) (new_tree M n begin)

@@ -20,7 +20,8 @@ use Rattle.std.proofs.lemmas.List.{length-map}
 use Rattle.tree.specs.Apart.{places}
 use Rattle.model.proofs.Grants.{slot_law, sizes_parts, create_fit, put_fit, remove_fit}
 use Rattle.std.proofs.lemmas.Bool.{cases_eq}
-use Rattle.model.specs.Model.{Trees, Model, maps_of, refusal, late, free, used, holds, source, new_tree, writes_for, standing, forms, reaches, left_after, next, reply, after, with_change, broken, landed, finished, cut_model, working≔}
+use Rattle.model.specs.Model.{Trees, Model, maps_of, refusal, late, free, used, holds, source, new_tree, forms, reaches}
+use Rattle.model.proofs.Ideal.{writes_for, standing, left_after, next, reply, after, with_change, broken, landed, finished, cut_model, working≔}
 use Rattle.model.specs.World.{Tables, Mode, Mode.mounted, Mode.sealed, Mode.down, placed, finished_tables, trees, model_of, shape, latest, walked, faulty, found, sizes, slot_in, fresh, Formatted, FreeWrite, Changed, targets, Effect, Quiet, Mounts, Does, Step, bare}
 use Rattle.model.proofs.Frames.{Calm, calm_cut, Still, Keeps, Off, IsWrite, left_replay, layer_replay, calm_apply, calm_replay, keeps_writes, cut_calm, keeps_cut, keeps_flush, still_keeps, Same, each_take, each_map, OnPlace, good_at, good_set, Goods, Reaches, trees_same, good_same, good_inside, trees_place, trees_put}
 

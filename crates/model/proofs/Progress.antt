@@ -30,6 +30,7 @@ use Rattle.model.proofs.Walks.{Angles, rows_angles}
 use Rattle.model.proofs.TreeLaws.{needed, changed_low}
 use Rattle.model.proofs.Grants.{unused_each, free_each, sizes_parts}
 use Rattle.model.proofs.Histories.{Base, keeps_free}
+use Rattle.model.proofs.Encoded.{encoded}
 use Rattle.tree.proofs.Granted.{in_at, one_place}
 
 abbrev Ot : Type 0
@@ -294,9 +295,10 @@ changed_apart begin t = ((λ z. z), tt)
 changed_apart (puts s a) t = (places_apart ℕ s t).0 a
 changed_apart (takes s) t = (places_apart ℕ s t).1
 
-each_ops : (N : ℕ → Type 0) (F : Op → Type 0) → ((b : ℕ) (ws : List ℕ) → N b → F (write b ws)) → (w : ℕ) (ys : List (ℕ × Block)) → Each N (firsts_of ys) → Each F (ops w ys)
-each_ops N F h w [] a = tt
-each_ops N F h w (y ∷ ys) a = (h y.0 (encode w y.1) a.0, each_ops N F h w ys a.1)
+each_ops : (N : ℕ → Type 0) (F : Op → Type 0) (w : ℕ) → ((b : ℕ) (n : Block) → N b → Layout w n → F (write b (encode w n)))
+    → (ys : List (ℕ × Block)) → Each N (firsts_of ys) → Each (λ (y : ℕ × Block). Layout w y.1) ys → Each F (ops w ys)
+each_ops N F w h [] a l = tt
+each_ops N F w h (y ∷ ys) a l = (h y.0 y.1 a.0 l.0, each_ops N F w h ys a.1 l.1)
 
 each_firsts : (N : ℕ → Type 0) (ys : List (ℕ × Block)) → Each N (firsts_of ys) → Each (λ (y : ℕ × Block). N y.0) ys
 each_firsts N [] a = tt
@@ -342,13 +344,13 @@ module _ (t : Tables) (m : Meaning) (B : Base t m) (n : ℕ) (d : Change ℕ) wh
       let apart : Distinct (firsts_of ys) = subst Distinct (sym firsts_are) (map_apart fs (places ℕ r) (changed_apart d src) low (unused_apart (blocks_of m - 2) 2 (used (shape t m)))) in
       let nice : Each Nice (firsts_of ys)
       = subst (Each Nice) (sym firsts_are) (each_in Nice (new_blocks d fs src) (λ b h. let z = in_map fs (places ℕ r) b h in subst Nice (sym z.2) (each_at Nice fs (get_or fs z.0 0) free_nice (in_at fs z.0 (low z.0 z.1))))) in
-      let frees : Each (FreeWrite t m) script = each_ops Nice (FreeWrite t m) (λ b ws k. k) m.width ys nice in
       let c : ℕ → Content = current_at (replay script m) in
       let small : Each (λ (y : ℕ × Block). y.0 < blocks_of m) ys = each_in (λ (y : ℕ × Block). y.0 < blocks_of m) ys (λ y h. (each_at (λ (y : ℕ × Block). Nice y.0) ys y (each_firsts Nice ys nice) h).1) in
       let sz = sizes_parts (blocks_of m) m.width B.kept.sized in
       let laid : Each (λ (y : ℕ × Block). Layout m.width y.1) ys
       = fresh_keep (λ i. get_or fs i 0) (λ l v. Layout m.width (block_of l v)) (λ (y : ℕ × Block). Layout m.width y.1) (λ l v z. z) r.0 r.1.0 r.1.1
-      (fit_layouts (blocks_of m) m.width sz.1 sz.2 (new_tree (model_of t m) n d) F) in (
+      (fit_layouts (blocks_of m) m.width sz.1 sz.2 (new_tree (model_of t m) n d) F) in
+      let frees : Each (FreeWrite t m) script = each_ops Nice (FreeWrite t m) m.width (λ b n k l. (k.0, k.1, k.2, encoded m.width n l)) ys nice laid in (
         frees,
         (λ b. ap (occ b) (targets_ops m.width ys ∙ firsts_are)),
         refl,

@@ -16,9 +16,11 @@ use Rattle.tree.specs.Reads.{look}
 use Rattle.model.proofs.TreeLaws.{keys_form}
 use Rattle.model.proofs.Places.{form_of?, rows_of?, forms_place, maps_place, form_at_lem}
 use Rattle.model.proofs.Grants.{create_rows, put_rows, remove_rows}
-use Rattle.model.specs.Model.{Trees, Model, maps_of, forms, shape_of, holds, late, refusal, tree_of, new_tree, standing, with_change, after, next, reply, broken, landed, cut_model}
-use Rattle.model.specs.World.{Mode, Mode.mounted, Mode.sealed, Mode.down, Event, Event.did, Event.broke, Event.lost, Run, Step, bare, model_of, shape, Tables, FreeWrite, Changed, Effect, Quiet}
-use Rattle.model.specs.Right.{Outcome, fed, Shows, Takes, Right, Histories}
+use Rattle.model.specs.Model.{Trees, Model, maps_of, forms, shape_of, free, holds, late, refusal, tree_of, new_tree}
+use Rattle.model.proofs.Ideal.{standing, with_change, after, next, reply, broken, landed, cut_model}
+use Rattle.model.specs.World.{Mode, Mode.mounted, Mode.sealed, Mode.down, Event, Event.did, Event.broke, Event.lost, Run, Step, bare, model_of, shape, Tables, placed, FreeWrite, Changed, Effect, Quiet}
+use Rattle.model.specs.Right.{Outcome, fed, Shows, Makes, Takes, free_in, Shares, Right, Histories}
+use Rattle.model.proofs.Shared.{clone_free}
 use Rattle.model.proofs.Histories.{Base, Fine, step_fine, broke_fine, idle_cut, formatted_fine, fine_table}
 use Rattle.model.proofs.TwoRuns.{two_runs}
 
@@ -167,42 +169,30 @@ module _ (V : Type 0) (join : ℕ → Map → V) where
   plain_next down reopen M m a os w' m' f S = refl
   plain_next down mount M m a os w' m' f S = refl
 
-  ask_takes : (q : Ask) (t : Tables) (m : Meaning) (os : List Op) (w' : Mode) (m' : Meaning) → Effect t m q os w' m' → Takes (mounted t) m (ask q) os
-  ask_takes (create n) t m os w' m' E = E.0
-  ask_takes (clone f n) t m os w' m' E = E.0
-  ask_takes (delete n) t m os w' m' E = E.0
-  ask_takes (put n s a) t m os w' m' E = E.0
-  ask_takes (remove n s) t m os w' m' E = go (holds (shape t m) n s) E
+  ask_makes : (q : Ask) (t : Tables) (m : Meaning) (os : List Op) (w' : Mode) (m' : Meaning) → Effect t m q os w' m' → Makes t m q os
+  ask_makes (create n) t m os w' m' E = E.0
+  ask_makes (clone f n) t m os w' m' E = E.0
+  ask_makes (delete n) t m os w' m' E = E.0
+  ask_makes (put n s a) t m os w' m' E = E.0
+  ask_makes (remove n s) t m os w' m' E = go (holds (shape t m) n s) E
     where
       go : (k : Bool) → cond k (Changed t m n (takes s) os w' m') (Quiet (mounted t) os w') → Each (FreeWrite t m) os
       go true E = E.0
       go false E = subst (Each (FreeWrite t m)) (sym E.0) tt
-  ask_takes (get n s) t m os w' m' E = E.0
-  ask_takes (at n s) t m os w' m' E = E.0
-  ask_takes (rows n s k) t m os w' m' E = E.0
-  ask_takes (summary k n) t m os w' m' E = E.0
-  ask_takes seal t m os w' m' E = inr E.0
-
-  none_takes : (q : Ask) (t : Tables) (m : Meaning) → Takes (mounted t) m (ask q) []
-  none_takes (create n) t m = tt
-  none_takes (clone f n) t m = refl
-  none_takes (delete n) t m = refl
-  none_takes (put n s a) t m = tt
-  none_takes (remove n s) t m = tt
-  none_takes (get n s) t m = refl
-  none_takes (at n s) t m = refl
-  none_takes (rows n s k) t m = refl
-  none_takes (summary k n) t m = refl
-  none_takes seal t m = inl refl
+  ask_makes (get n s) t m os w' m' E = E.0
+  ask_makes (at n s) t m os w' m' E = E.0
+  ask_makes (rows n s k) t m os w' m' E = E.0
+  ask_makes (summary k n) t m os w' m' E = E.0
+  ask_makes seal t m os w' m' E = E.0
 
   step_takes : (w : Mode) (c : Call) (m : Meaning) (a : Answer V) (os : List Op) (w' : Mode) (m' : Meaning) → Step V join w m c a os w' m' → Takes w m c os
   step_takes (mounted t) (ask q) m a os w' m' S = go (refusal (shape t m) q) S.1
     where
       go : (o : Option Refusal)
           → elim o as (λ _. Type 0) [ Some r ↦ (a ≡ refused r) × Quiet (mounted t) os w' | None ↦ (a ≡ answer V join (maps_of (model_of t m).working) q) × Effect t m q os w' m' ]
-          → Takes (mounted t) m (ask q) os
-      go (Some r) D = subst (Takes (mounted t) m (ask q)) (sym D.1.0) (none_takes q t m)
-      go None D = ask_takes q t m os w' m' D.1
+          → elim o as (λ _. Type 0) [ Some r ↦ os ≡ [] | None ↦ Makes t m q os ]
+      go (Some r) D = D.1.0
+      go None D = ask_makes q t m os w' m' D.1
   step_takes (mounted t) finish m a os w' m' S = S.1
   step_takes (mounted t) reopen m a os w' m' S = S.1
   step_takes (mounted t) mount m a os w' m' S = S.1.0
@@ -215,6 +205,24 @@ module _ (V : Type 0) (join : ℕ → Map → V) where
   step_takes down reopen m a os w' m' S = S.1
   step_takes down mount m a os w' m' S = S.1.0
 
+  -- a clone call changes nothing of what is free
+  step_shares : (w : Mode) (c : Call) (m : Meaning) (a : Answer V) (os : List Op) (w' : Mode) (m' : Meaning) → Step V join w m c a os w' m' → Shares w m c w' m'
+  step_shares w c m a os w' m' S f n e = at_clone w (subst (λ c. Step V join w m c a os w' m') e S)
+    where
+      quiet : (v : Mode) → Quiet v os w' → m' ≡ replay os m → free_in w' m' ≡ free_in v m
+      quiet v q r = ap₂ free_in q.1 (r ∙ ap (λ os. replay os m) q.0)
+
+      at_clone : (w : Mode) → Step V join w m (ask (clone f n)) a os w' m' → free_in w' m' ≡ free_in w m
+      at_clone (mounted t) S = go (refusal (shape t m) (clone f n)) refl S.1
+        where
+          go : (o : Option Refusal) → refusal (shape t m) (clone f n) ≡ o
+              → elim o as (λ _. Type 0) [ Some r ↦ (a ≡ refused r) × Quiet (mounted t) os w' | None ↦ (a ≡ answer V join (maps_of (model_of t m).working) (clone f n)) × Effect t m (clone f n) os w' m' ]
+              → free_in w' m' ≡ free (shape t m)
+          go (Some r) e D = quiet (mounted t) D.1 S.0
+          go None e D = quiet (mounted (placed t (set t.working n (place t.working f)))) D.1 S.0 ∙ clone_free t m f n e
+      at_clone (sealed t) S = absurd S.1
+      at_clone down S = absurd S.1
+
   right : (es : List (Event V)) (p : Plain) (M : Model) (w : Mode) (m : Meaning) → plain_m M ≡ p → Fine M w m → Run V join w m es → Right V join p w m es
   right [] p M w m e f R = subst (λ x. Shows x w m) e (fine_shows w M m f)
   right (did c a os w' m' ∷ es) p M w m e f R =
@@ -222,6 +230,7 @@ module _ (V : Type 0) (join : ℕ → Map → V) where
       let g = fed_same w c M m a os w' m' f R.0 in (
         subst (λ x. Shows x w m) e (fine_shows w M m f),
         step_takes w c m a os w' m' R.0,
+        step_shares w c m a os w' m' R.0,
         s.0 ∙ plain_reply c M ∙ ap₂ (λ x y. plain.reply V join x c y) e g,
         right es (plain.next p c (fed w m c)) (next M c) w' m' (plain_next w c M m a os w' m' f R.0 ∙ ap₂ (λ x y. plain.next x c y) e g) s.1 R.1,
       )

@@ -1,6 +1,6 @@
 -- The volume on its device, what each call does, histories of calls and cuts, and the law of histories.
 use Rattle.std.specs.Prelude.{◌≡◌, ℕ, suc, ◌%◌, ◌<◌, ◌≤◌, Bool, true, cond, ◌&&◌, T, List, [], ◌∷◌, take, Some, None, Ok, Err, Option, Result, ◌==◌, nat_le, slice_set}
-use Rattle.device.specs.Meaning.{Content, Content.words, Content.damaged, Meaning, blocks_of, current_at, cell_at}
+use Rattle.device.specs.Meaning.{Content, Content.words, Content.damaged, Meaning, Words, blocks_of, current_at, cell_at}
 use Rattle.device.specs.Cuts.{Op, Op.write, Op.flush, Cutting, replay, cut}
 use Rattle.page.specs.Slot.{Table, slot_words, slot_read}
 use Rattle.counts.specs.Counts.{occ}
@@ -85,8 +85,9 @@ model_of t m = record {
 abbrev pub shape : Tables → Meaning → Shapes
 shape t m = shape_of (model_of t m)
 
+-- a block's words, to a tree block that no working or committed clone reaches
 abbrev pub FreeWrite : Tables → Meaning → Op → Type 0
-FreeWrite t m (write b ws) = (2 ≤ b) × (b < blocks_of m) × (T (elem b (used (shape t m))) → ⊥)
+FreeWrite t m (write b ws) = (2 ≤ b) × (b < blocks_of m) × (T (elem b (used (shape t m))) → ⊥) × Words m.width ws
 FreeWrite t m flush = ⊥
 
 -- the blocks written
@@ -155,11 +156,7 @@ module _ (V : Type 0) (join : ℕ → Map → V) where
       (os ≡ []) × elim (found m) [ Ok x ↦ (a ≡ done) × (w' ≡ mounted (fresh x)) | Err r ↦ (a ≡ refused r) × (w' ≡ down) ]
 
   abbrev pub Does : Mode → Meaning → Call → Answer V → List Op → Mode → Meaning → Type 0
-  Does (mounted t) m (ask q) a os w' m' =
-      elim (refusal (shape t m) q) [
-        | Some r ↦ (a ≡ refused r) × Quiet (mounted t) os w'
-        | None ↦ (a ≡ answer V join (maps_of (model_of t m).working) q) × Effect t m q os w' m'
-      ]
+  Does (mounted t) m (ask q) a os w' m' = Asked refused (answer V join (maps_of (model_of t m).working) q) t m q a os w' m'
   Does (mounted t) m finish a os w' m' = ⊥
   Does (mounted t) m reopen a os w' m' = ⊥
   Does (mounted t) m mount a os w' m' = Mounts m a os w'

@@ -9,7 +9,6 @@ ghost use Rattle.model.specs.Walk.{WalkExact};
 ghost use Rattle.model.specs.Right.{Histories};
 ghost use Rattle.model.specs.Reach.{UseIsReach, FreeByCounts};
 ghost use Rattle.model.specs.Onward.{GoesOn, Formats};
-ghost use Rattle.model.specs.Order.{EarlyFirst, AbsentFirst};
 
 pub use refusal::Refusal;
 
@@ -31,10 +30,4 @@ pub fn no_history_is_stuck<V>()
 // The blocks in use are those that places reach, and the free ones those of count 0.
 pub fn free_goes_by_counts()
     ensures { UseIsReach × FreeByCounts }
-{}
-
-// Refusals from the arguments and the tables come before those from blocks and writes.
-pub fn arguments_are_checked_first()
-    ensures any { EarlyFirst }
-    ensures absent { AbsentFirst }
 {}

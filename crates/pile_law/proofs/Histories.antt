@@ -5,11 +5,16 @@ use Rattle.device.specs.Cuts.{Op, apply, replay}
 use Rattle.device.proofs.Choices.{cuts_agree}
 use Rattle.model.specs.Plain.{Map}
 use Rattle.model.specs.World.{Mode, Mode.mounted, Mode.down, Event, Event.did, Event.broke, Event.lost, Run, bare}
+use Rattle.model.specs.World.{model_of}
+use Rattle.model.specs.Model.{Model}
+use Rattle.model.proofs.Ideal.{next, broken, cut_model}
+use Rattle.model.proofs.Histories.{Fine, step_fine, broke_fine, idle_cut, formatted_fine}
 use Rattle.model.proofs.Right.{histories}
 use Rattle.piles.specs.Piles.{Pile, shows, Built, PerBottom, if_done, whole, Accepts, Cuts, anew, counts}
-use Rattle.pile_law.specs.Histories.{calls, moment, AcceptsAll, Below, Below.called, Below.failed, Below.cut, RunBelow, AllSeen, PilesKeepTheLaw}
+use Rattle.pile_law.specs.Histories.{calls, moment, Below, Below.called, Below.failed, Below.cut, RunBelow, AllSeen, PilesKeepTheLaw}
 use Rattle.piles.proofs.Devices.{shows_whole, built_whole}
 use Rattle.piles.proofs.Rise.{cuts_rise, rest, made}
+use Rattle.pile_law.proofs.Accepted.{AcceptsAll, Spare, step_accepted}
 
 pub next_accepts : (o : Op) (os : List Op) (p : Pile) → Built p → (a : Accepts (shows p) o) → AcceptsAll (apply o (shows p)) os → AcceptsAll (shows (whole o p)) os
 next_accepts o os p b a more = subst (λ m. AcceptsAll m os) (sym (shows_whole o p b a)) more
@@ -63,23 +68,33 @@ at_moment (o ∷ os) (suc i) d p q b a c =
     )
 
 module _ (V : Type 0) (join : ℕ → Map → V) where
-  rises : (es : List (Below V)) (w : Mode) (p : Pile) → Built p → RunBelow V join w p es → (fs : List (Event V)) × AllSeen es fs × Run V join w (shows p) fs
-  rises [] w p b r = ([], tt, tt)
-  rises (called c a os w' ∷ es) w p b r =
-      let s = shows_calls os p b r.1 in
-      let t = rises es w' (calls os p) s.1 r.2 in
-      (did c a os w' (replay os (shows p)) ∷ t.0, ((refl, refl, refl, refl), t.1), (r.0, subst (λ m. Run V join w' m t.0) s.0 t.2))
-  rises (failed c os i d q ∷ es) w p b r =
-      let x = at_moment os i d p q b r.1 r.2 in
-      let κ = cuts_agree.1 (replay (take x.1.0 os) (shows p)) (shows (anew q)) x.1.2 in
-      let t = rises es down (anew q) x.0 r.3 in
-      (broke c os x.1.0 κ.0 ∷ t.0, ((refl, refl, x.1.1), t.1), (r.0, subst (λ m. Run V join down m t.0) κ.2 t.2))
-  rises (cut q ∷ es) w p b r =
+  rises : (es : List (Below V)) (w : Mode) (p : Pile) (M : Model) → Built p → Fine M w (shows p) → Spare w (shows p) → RunBelow V join w p es → (fs : List (Event V)) × AllSeen es fs × Run V join w (shows p) fs
+  rises [] w p M b f s r = ([], tt, tt)
+  rises (called c a os w' ∷ es) w p M b f s r =
+      let m = shows p in
+      let m' = replay os m in
+      let k = step_accepted V join w m c a os w' m' M f s r.0 in
+      let x = shows_calls os p b k.0 in
+      let f' = subst (Fine (next M c) w') (sym x.0) (step_fine V join w c M m a os w' m' f r.0).1 in
+      let t = rises es w' (calls os p) (next M c) x.1 f' (subst (Spare w') (sym x.0) k.1) r.1 in
+      (did c a os w' m' ∷ t.0, ((refl, refl, refl, refl), t.1), (r.0, subst (λ m. Run V join w' m t.0) x.0 t.2))
+  rises (failed c os i d q ∷ es) w p M b f s r =
+      let m = shows p in
+      let S = r.0 in
+      let k = step_accepted V join w m c S.0 os S.1 S.2 M f s S.3 in
+      let x = at_moment os i d p q b k.0 r.1 in
+      let j = x.1.0 in
+      let κ = cuts_agree.1 (replay (take j os) m) (shows (anew q)) x.1.2 in
+      let f' = subst (Fine (cut_model κ.0 (broken M c j κ.0)) down) (sym κ.2) (broke_fine V join w c M m S.0 os S.1 S.2 j κ.0 f S.3) in
+      let t = rises es down (anew q) (cut_model κ.0 (broken M c j κ.0)) x.0 f' tt r.2 in
+      (broke c os j κ.0 ∷ t.0, ((refl, refl, x.1.1), t.1), (S, subst (λ m. Run V join down m t.0) κ.2 t.2))
+  rises (cut q ∷ es) w p M b f s r =
       let κ = cuts_agree.1 (shows p) (shows (anew q)) (rest p q b r.0) in
-      let t = rises es down (anew q) (made p q b r.0).0 r.1 in
+      let f' = subst (Fine (cut_model κ.0 M) down) (sym κ.2) (idle_cut M κ.0 w (shows p) f) in
+      let t = rises es down (anew q) (cut_model κ.0 M) (made p q b r.0).0 f' tt r.1 in
       (lost κ.0 ∷ t.0, (tt, t.1), subst (λ m. Run V join down m t.0) κ.2 t.2)
 
 pub piles_keep_the_law : (V : Type 0) → PilesKeepTheLaw V
-piles_keep_the_law V join p es b r =
-    let t = rises V join es (mounted bare) p b r in
-    (t.0, t.1, t.2, λ f. (histories V).0 join (shows p) t.0 f t.2)
+piles_keep_the_law V join p es b f r =
+    let t = rises V join es (mounted bare) p (model_of bare (shows p)) b (formatted_fine V join (shows p) f) tt r in
+    (t.0, t.1, t.2, (histories V).0 join (shows p) t.0 f t.2)

@@ -1,3 +1,4 @@
+pub mod Accepted
 pub mod Histories
 pub mod Kept
 pub mod Kin

@@ -11,7 +11,8 @@ use Rattle.model.specs.declared.refusal.Refusal.{Refusal}
 use Rattle.model.specs.Plain.{Map, Ask, Answer}
 use Rattle.model.specs.Plain.{Ask.create, Ask.clone, Ask.delete, Ask.put, Ask.remove, Ask.get, Ask.at, Ask.rows, Ask.summary, Ask.seal, Call.ask, Call.finish, Call.reopen, Call.mount, Answer.done, Answer.refused}
 use Rattle.model.specs.TreeBlocks.{Each, Change, Change.begin, Change.puts, Change.takes, changed, new_blocks, writes, form, without_angle}
-use Rattle.model.specs.Model.{Model, shape_of, free, holds, refusal, source, writes_for}
+use Rattle.model.specs.Model.{Model, shape_of, free, holds, refusal, source}
+use Rattle.model.proofs.Ideal.{writes_for}
 use Rattle.model.specs.World.{Tables, Mode, Mode.mounted, Mode.sealed, Mode.down, model_of, shape, targets, FreeWrite, Changed, Effect, Quiet, Mounts, Step, found, fresh, finishing}
 use Rattle.model.specs.TwoRuns as tw
 use Rattle.model.specs.TwoRuns.{Both, Both.alike, Legal, Marks, one, two}
@@ -43,7 +44,7 @@ SameMode down (sealed u) = ⊥
 abbrev pub Alike : List Op → List Op → Mode → Mode → Type 0
 Alike os os₂ w w₂ = SameCalls os os₂ × SameMode w w₂
 
-changed_length : (t : Tables) (m : Meaning) (n : ℕ) (d : Change ℕ) (os : List Op) (w' : Mode) (m' : Meaning) → Changed t m n d os w' m' → length os ≡ writes_for (model_of t m) n d
+pub changed_length : (t : Tables) (m : Meaning) (n : ℕ) (d : Change ℕ) (os : List Op) (w' : Mode) (m' : Meaning) → Changed t m n d os w' m' → length os ≡ writes_for (model_of t m) n d
 changed_length t m n d os w' m' G =
     let ws : Each IsWrite os = each_map (FreeWrite t m) IsWrite (are_writes t m) os G.0 in
     let ps : List ℕ = places ℕ (changed ℕ d (source (model_of t m) n d)) in

@@ -9,7 +9,8 @@ use Rattle.model.specs.World.{Mode, Mode.mounted, Mode.down, Run, Formatted, bar
 use Rattle.model.specs.TwoRuns as tw
 use Rattle.model.specs.TwoRuns.{Twin, legal, Agree, clear, SameCut}
 use Rattle.model.specs.TwoRuns.{Marks}
-use Rattle.model.specs.Model.{Model, cut_model, broken, next}
+use Rattle.model.specs.Model.{Model}
+use Rattle.model.proofs.Ideal.{cut_model, broken, next}
 use Rattle.model.specs.World.{model_of}
 use Rattle.model.proofs.Histories.{Fine, step_fine, broke_fine, idle_cut, formatted_fine}
 use Rattle.model.proofs.TwoRuns.{Rel, rel_next, rel_broken, rel_cut, clear_rel}
@@ -18,7 +19,8 @@ use Rattle.model.proofs.Grants.{sizes_parts}
 use Rattle.piles.specs.Piles.{Pile, Pile.bottom, Pile.check, Pile.quota, Pile.mirror, shows, Built, PerBottom, on, handed, if_done, part, whole, counts, counted, Accepts, anew}
 use Rattle.piles.proofs.Devices.{none, part_none, shows_whole, built_whole, width_apply}
 use Rattle.piles.proofs.Rise.{blocks_done, counted_none, cuts_rise}
-use Rattle.pile_law.specs.Histories.{calls, moment, AcceptsAll}
+use Rattle.pile_law.specs.Histories.{calls, moment}
+use Rattle.pile_law.proofs.Accepted.{AcceptsAll, Spare, step_accepted}
 use Rattle.pile_law.specs.TwoPiles.{KinPile, SameCall, Slots, cut_bottoms, Fitting, TwinChoices, OneCut}
 use Rattle.pile_law.specs.TwoHistories.{TwinBelow, TwinBelow.called, TwinBelow.failed, TwinBelow.cut, RunTwins, AllSeenTwins, TwoPilesAgree}
 use Rattle.pile_law.proofs.Histories.{shows_calls, next_accepts, take_one, take_nil}
@@ -124,29 +126,33 @@ module _ (V : Type 0) (join : ℕ → Map → V) where
       (us : List (Twin V)) × AllSeenTwins ts us × Each legal us × Run V join w (shows p) (map tw.first us) × Run V join w₂ (shows p₂) (map tw.second us)
 
   tops : (ts : List (TwinBelow V)) (w : Mode) (p : Pile) (w₂ : Mode) (p₂ : Pile) (M N : Model) (μ : Marks) → Pair p p₂
-      → Fine M w (shows p) → Fine N w₂ (shows p₂) → Rel μ M N → SameMode w w₂ → RunTwins V join w p w₂ p₂ ts → Tops w p w₂ p₂ ts
+      → Fine M w (shows p) → Fine N w₂ (shows p₂) → Spare w (shows p) → Spare w₂ (shows p₂) → Rel μ M N → SameMode w w₂ → RunTwins V join w p w₂ p₂ ts → Tops w p w₂ p₂ ts
   unfolding SameMode
-  tops [] w p w₂ p₂ M N μ x f g R s r = ([], tt, tt, tt, tt)
-  tops (called y a os v a₂ os₂ v₂ ∷ ts) w p w₂ p₂ M N μ x f g R s r =
-      let d = twin_calls V join y w w₂ (shows p) (shows p₂) M N μ r.0 f g R s a a₂ os os₂ v v₂ (replay os (shows p)) (replay os₂ (shows p₂)) r.1.0 r.2.0 in
-      let e = (shows_calls os p x.first r.1.1).0 in
-      let e₂ = (shows_calls os₂ p₂ x.second r.2.1).0 in
-      let f' = subst (Fine (next M (tw.one y)) v) (sym e) (step_fine V join w (tw.one y) M (shows p) a os v (replay os (shows p)) f r.1.0).1 in
-      let g' = subst (Fine (next N (tw.two y)) v₂) (sym e₂) (step_fine V join w₂ (tw.two y) N (shows p₂) a₂ os₂ v₂ (replay os₂ (shows p₂)) g r.2.0).1 in
-      let t = tops ts v (calls os p) v₂ (calls os₂ p₂) (next M (tw.one y)) (next N (tw.two y)) _ (pair_calls os os₂ p p₂ x r.1.1 r.2.1 d.0) f' g' (rel_next V join y μ M N r.0 R) d.1 r.3 in (
+  tops [] w p w₂ p₂ M N μ x f g l l₂ R s r = ([], tt, tt, tt, tt)
+  tops (called y a os v a₂ os₂ v₂ ∷ ts) w p w₂ p₂ M N μ x f g l l₂ R s r =
+      let d = twin_calls V join y w w₂ (shows p) (shows p₂) M N μ r.0 f g R s a a₂ os os₂ v v₂ (replay os (shows p)) (replay os₂ (shows p₂)) r.1 r.2 in
+      let k = step_accepted V join w (shows p) (tw.one y) a os v (replay os (shows p)) M f l r.1 in
+      let k₂ = step_accepted V join w₂ (shows p₂) (tw.two y) a₂ os₂ v₂ (replay os₂ (shows p₂)) N g l₂ r.2 in
+      let e = (shows_calls os p x.first k.0).0 in
+      let e₂ = (shows_calls os₂ p₂ x.second k₂.0).0 in
+      let f' = subst (Fine (next M (tw.one y)) v) (sym e) (step_fine V join w (tw.one y) M (shows p) a os v (replay os (shows p)) f r.1).1 in
+      let g' = subst (Fine (next N (tw.two y)) v₂) (sym e₂) (step_fine V join w₂ (tw.two y) N (shows p₂) a₂ os₂ v₂ (replay os₂ (shows p₂)) g r.2).1 in
+      let t = tops ts v (calls os p) v₂ (calls os₂ p₂) (next M (tw.one y)) (next N (tw.two y)) _ (pair_calls os os₂ p p₂ x k.0 k₂.0 d.0) f' g' (subst (Spare v) (sym e) k.1) (subst (Spare v₂) (sym e₂) k₂.1) (rel_next V join y μ M N r.0 R) d.1 r.3 in (
         Twin.did y a os v (replay os (shows p)) a₂ os₂ v₂ (replay os₂ (shows p₂)) ∷ t.0,
         ((refl, refl, refl, refl, refl, refl, refl), t.1),
         (r.0, t.2),
-        (r.1.0, subst (λ m. Run V join v m (map tw.first t.0)) e t.3),
-        (r.2.0, subst (λ m. Run V join v₂ m (map tw.second t.0)) e₂ t.4),
+        (r.1, subst (λ m. Run V join v m (map tw.first t.0)) e t.3),
+        (r.2, subst (λ m. Run V join v₂ m (map tw.second t.0)) e₂ t.4),
       )
-  tops (failed y os os₂ i d K K₂ ∷ ts) w p w₂ p₂ M N μ x f g R s r =
+  tops (failed y os os₂ i d K K₂ ∷ ts) w p w₂ p₂ M N μ x f g l l₂ R s r =
       let q = anew (cut_bottoms K (moment os i d p)) in
       let q₂ = anew (cut_bottoms K₂ (moment os₂ i d p₂)) in
-      let S = r.1.0 in
-      let U = r.2.0 in
+      let S = r.1 in
+      let U = r.2 in
+      let k = step_accepted V join w (shows p) (tw.one y) S.0 os S.1 S.2 M f l S.3 in
+      let k₂ = step_accepted V join w₂ (shows p₂) (tw.two y) U.0 os₂ U.1 U.2 N g l₂ U.3 in
       let e = twin_calls V join y w w₂ (shows p) (shows p₂) M N μ r.0 f g R s S.0 U.0 os os₂ S.1 U.1 S.2 U.2 S.3 U.3 in
-      let z = at_moment K K₂ os os₂ i d p p₂ x r.1.1 r.2.1 e.0 r.3 in
+      let z = at_moment K K₂ os os₂ i d p p₂ x k.0 k₂.0 e.0 r.3 in
       let c = z.2.1 in
       let b = rel_broken V join y z.0 c.first c.second c.same μ M N R in
       let M' : Model = cut_model c.first (broken M (tw.one y) z.0 c.first) in
@@ -154,21 +160,21 @@ module _ (V : Type 0) (join : ℕ → Map → V) where
       let f' = subst (Fine M' down) (sym c.first_cut) (broke_fine V join w (tw.one y) M (shows p) S.0 os S.1 S.2 z.0 c.first f S.3) in
       let g' = subst (Fine N' down) (sym c.second_cut) (broke_fine V join w₂ (tw.two y) N (shows p₂) U.0 os₂ U.1 U.2 z.0 c.second g U.3) in
       let R' = rel_cut c.first c.second c.same b.0 (broken M (tw.one y) z.0 c.first) (broken N (tw.two y) z.0 c.second) b.2 in
-      let t = tops ts down q down q₂ M' N' b.0 z.2.0 f' g' R' tt r.4 in (
+      let t = tops ts down q down q₂ M' N' b.0 z.2.0 f' g' tt tt R' tt r.4 in (
         Twin.broke y os os₂ z.0 c.first c.second ∷ t.0,
         ((refl, refl, refl, z.1), t.1),
         ((r.0, c.same), t.2),
         (S, subst (λ m. Run V join down m (map tw.first t.0)) c.first_cut t.3),
         (U, subst (λ m. Run V join down m (map tw.second t.0)) c.second_cut t.4),
       )
-  tops (cut K K₂ ∷ ts) w p w₂ p₂ M N μ x f g R s r =
+  tops (cut K K₂ ∷ ts) w p w₂ p₂ M N μ x f g l l₂ R s r =
       let q = anew (cut_bottoms K p) in
       let q₂ = anew (cut_bottoms K₂ p₂) in
       let z = cut_rest K K₂ p p₂ x r.0 in
       let c = z.1 in
       let f' = subst (Fine (cut_model c.first M) down) (sym c.first_cut) (idle_cut M c.first w (shows p) f) in
       let g' = subst (Fine (cut_model c.second N) down) (sym c.second_cut) (idle_cut N c.second w₂ (shows p₂) g) in
-      let t = tops ts down q down q₂ (cut_model c.first M) (cut_model c.second N) μ z.0 f' g' (rel_cut c.first c.second c.same μ M N R) tt r.1 in (
+      let t = tops ts down q down q₂ (cut_model c.first M) (cut_model c.second N) μ z.0 f' g' tt tt (rel_cut c.first c.second c.same μ M N R) tt r.1 in (
         Twin.lost c.first c.second ∷ t.0,
         (tt, t.1),
         (c.same, t.2),
@@ -185,5 +191,5 @@ two_piles_agree V join p ts u f r =
     let x : Pair p p = record { first = u; second = u; blocks = sizes_two (shows p) f; slots = λ b h. kin_refl b 0 p } in
     let g = formatted_fine V join (shows p) f in
     let M : Model = model_of bare (shows p) in
-    let t = tops V join ts (mounted bare) p (mounted bare) p M M clear x g g (clear_rel V join (shows p)) tt r in
+    let t = tops V join ts (mounted bare) p (mounted bare) p M M clear x g g tt tt (clear_rel V join (shows p)) tt r in
     (t.0, t.1, (histories V).1 join (shows p) t.0 f t.2 t.3 t.4)

@@ -1,11 +1,11 @@
 -- Histories of a volume on a pile, of which the bottoms are cut, and the law of histories over them.
 use Rattle.std.specs.Prelude.{◌≡◌, ℕ, zero, suc, ◌⊎◌, Bool, List, [], ◌∷◌}
 use Rattle.device.specs.Meaning.{Meaning}
-use Rattle.device.specs.Cuts.{Op, apply, replay}
+use Rattle.device.specs.Cuts.{Op, replay}
 use Rattle.model.specs.Plain.{Map, Call, Answer, start}
 use Rattle.model.specs.World.{Mode, Mode.mounted, Mode.down, Event, Event.did, Event.broke, Event.lost, Step, Run, Formatted, bare}
 use Rattle.model.specs.Right.{Right}
-use Rattle.piles.specs.Piles.{Pile, shows, Built, PerBottom, part, whole, Accepts, Cuts, anew}
+use Rattle.piles.specs.Piles.{Pile, shows, Built, PerBottom, part, whole, Cuts, anew}
 
 -- some calls, one after another
 abbrev pub calls : List Op → Pile → Pile
@@ -17,10 +17,6 @@ abbrev pub moment : List Op → ℕ → PerBottom Bool → Pile → Pile
 moment [] i d p = p
 moment (o ∷ os) zero d p = part o d p
 moment (o ∷ os) (suc i) d p = moment os i d (whole o p)
-
-abbrev pub AcceptsAll : Meaning → List Op → Type 0
-AcceptsAll m [] = Unit
-AcceptsAll m (o ∷ os) = Accepts m o × AcceptsAll (apply o m) os
 
 -- what happens to a volume on a pile
 pub data Below (V : Type 0) : Type 0 where
@@ -35,9 +31,9 @@ module _ (V : Type 0) (join : ℕ → Map → V) where
   -- a history on a pile: after each cut the layers are built anew over what it left of the bottoms
   abbrev pub RunBelow : Mode → Pile → List (Below V) → Type 0
   RunBelow w p [] = Unit
-  RunBelow w p (called c a os w' ∷ es) = Step V join w (shows p) c a os w' (replay os (shows p)) × AcceptsAll (shows p) os × RunBelow w' (calls os p) es
+  RunBelow w p (called c a os w' ∷ es) = Step V join w (shows p) c a os w' (replay os (shows p)) × RunBelow w' (calls os p) es
   RunBelow w p (failed c os i d q ∷ es) =
-      ((a : Answer V) × (w' : Mode) × (m' : Meaning) × Step V join w (shows p) c a os w' m') × AcceptsAll (shows p) os × Cuts (moment os i d p) q × RunBelow down (anew q) es
+      ((a : Answer V) × (w' : Mode) × (m' : Meaning) × Step V join w (shows p) c a os w' m') × Cuts (moment os i d p) q × RunBelow down (anew q) es
   RunBelow w p (cut q ∷ es) = Cuts p q × RunBelow down (anew q) es
 
 -- the event of a volume on a device, as which an event on a pile shows: a cut inside a device call is one before it or after it
@@ -52,9 +48,8 @@ AllSeen [] [] = Unit
 AllSeen (e ∷ es) (f ∷ fs) = Seen e f × AllSeen es fs
 AllSeen es fs = ⊥
 
--- every history on a pile is one of the device that the pile shows, so the law of histories holds of it
+-- every history on a formatted pile is one of the device that the pile shows, so the law of histories holds of it
 abbrev pub PilesKeepTheLaw : (V : Type 0) → Type 0
 PilesKeepTheLaw V =
-    (join : ℕ → Map → V) (p : Pile) (es : List (Below V)) → Built p → RunBelow V join (mounted bare) p es
-    → (fs : List (Event V)) × AllSeen es fs × Run V join (mounted bare) (shows p) fs
-    × (Formatted (shows p) → Right V join start (mounted bare) (shows p) fs)
+    (join : ℕ → Map → V) (p : Pile) (es : List (Below V)) → Built p → Formatted (shows p) → RunBelow V join (mounted bare) p es
+    → (fs : List (Event V)) × AllSeen es fs × Run V join (mounted bare) (shows p) fs × Right V join start (mounted bare) (shows p) fs

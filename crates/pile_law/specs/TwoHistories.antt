@@ -6,7 +6,7 @@ use Rattle.model.specs.Plain.{Map, Answer, Call}
 use Rattle.model.specs.World.{Mode, Mode.mounted, Mode.down, Step, Formatted, bare}
 use Rattle.model.specs.TwoRuns.{Both, Twin, Twin.did, Twin.broke, Twin.lost, one, two, Legal, Agree, clear}
 use Rattle.piles.specs.Piles.{Pile, shows, Built, PerBottom, anew}
-use Rattle.pile_law.specs.Histories.{calls, moment, AcceptsAll}
+use Rattle.pile_law.specs.Histories.{calls, moment}
 use Rattle.pile_law.specs.TwoPiles.{cut_bottoms, TwinChoices}
 
 -- an event of both runs on piles of the same layers: the same moment, and choices at the bottoms for each
@@ -23,13 +23,13 @@ module _ (V : Type 0) (join : ℕ → Map → V) where
   RunTwins w p w₂ p₂ [] = Unit
   RunTwins w p w₂ p₂ (called x a os v a₂ os₂ v₂ ∷ ts) =
       Legal x
-      × (Step V join w (shows p) (one x) a os v (replay os (shows p)) × AcceptsAll (shows p) os)
-      × (Step V join w₂ (shows p₂) (two x) a₂ os₂ v₂ (replay os₂ (shows p₂)) × AcceptsAll (shows p₂) os₂)
+      × Step V join w (shows p) (one x) a os v (replay os (shows p))
+      × Step V join w₂ (shows p₂) (two x) a₂ os₂ v₂ (replay os₂ (shows p₂))
       × RunTwins v (calls os p) v₂ (calls os₂ p₂) ts
   RunTwins w p w₂ p₂ (failed x os os₂ i d K K₂ ∷ ts) =
       Legal x
-      × (Steps w p (one x) os × AcceptsAll (shows p) os)
-      × (Steps w₂ p₂ (two x) os₂ × AcceptsAll (shows p₂) os₂)
+      × Steps w p (one x) os
+      × Steps w₂ p₂ (two x) os₂
       × TwinChoices K K₂ p p₂
       × RunTwins down (anew (cut_bottoms K (moment os i d p))) down (anew (cut_bottoms K₂ (moment os₂ i d p₂))) ts
   RunTwins w p w₂ p₂ (cut K K₂ ∷ ts) =

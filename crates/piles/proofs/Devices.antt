@@ -65,7 +65,7 @@ module _ (n : ℕ) (m : Meaning) (within : quotas.Allowed n (shown_of m)) where
   inside = quotas.enough n m within
 
   pub quota_accepts : (o : Op) → Accepts (limited n m) o → Accepts m o
-  quota_accepts (write b ws) a = (omega (arith, a.0, limited_blocks n m inside), a.1, a.2)
+  quota_accepts (write b ws) a = (omega (arith, a.0, limited_blocks n m inside, inside), a.1, a.2)
   quota_accepts flush a = tt
 
   pub quota_apply : (o : Op) → Accepts (limited n m) o → limited n (apply o m) ≡ apply o (limited n m)

@@ -2,7 +2,8 @@
 use Rattle.std.proofs.Common.{◌≡◌, ℕ, ◌-◌, ◌<◌, ◌≤◌, Bool, true, false, ◌&&◌, ◌||◌, List, [], sym, refl, ap, ap₂, ◌∙◌, subst, subst₂, ⊎_elim, arith}
 use Rattle.std.proofs.ByRecursion.{All-from_get_or, All-get_or}
 use Rattle.std.proofs.lemmas.List.{length-map}
-use Rattle.device.specs.Meaning.{Meaning, Cell, Limits, Lawful, LawfulCell, Cut, CutCell, Held, flushed, flushed_cell, no_cell, blocks_of, cell_at}
+use Rattle.device.specs.Meaning.{Meaning, Cell, Limits, shown_of, Lawful, LawfulCell, Cut, CutCell, Held, flushed, flushed_cell, no_cell, blocks_of, cell_at}
+use Rattle.device.specs.Showing.{count_shown}
 use Rattle.device.specs.Cuts.{Op, Op.write, Op.flush, apply}
 use Rattle.device.proofs.Choices.{blocks_apply}
 use Rattle.device.proofs.Cuts.{any, cut_again, cut_flushed, cut_unwritten, cut_unflushed}
@@ -82,11 +83,12 @@ again (quota n p) (quota j q) b s =
     let z = flush_shape (shows p) (shows r) (shows (whole flush r)) f i.1 in
     let m = shows p in
     let x = shows (whole flush r) in
-    let few : j ≤ blocks_of x = omega (arith, z.blocks, b.1.1, s.0) in (
-      (built_whole flush r i.0 tt, (omega (arith, b.1.0, s.0), few)),
+    let was : n ≤ blocks_of m = quotas.enough n m b.1 in
+    let few : j ≤ blocks_of x = omega (arith, z.blocks, was, s.0) in (
+      (built_whole flush r i.0 tt, (omega (arith, b.1.0, s.0), omega (arith, few, count_shown x))),
       record {
         width = z.width;
-        blocks = limited_blocks j x few ∙ sym s.0 ∙ sym (limited_blocks n m b.1.1);
+        blocks = limited_blocks j x few ∙ sym s.0 ∙ sym (limited_blocks n m was);
       },
     )
 again (mirror p q) (mirror r s) b h =
@@ -113,11 +115,11 @@ again p q b s = absurd s
 
 -- one layer, built anew over what a cut left below
 module _ (m : Meaning) (r : Pile) (b : Built r) where
-  check_anew : checks.Allowed m → Cut m (shows r) → Cut (checked m) (shows (check (whole flush r)))
-  check_anew w c = subst (λ x. Cut (checked m) (checked x)) (sym (flushes r b)) (check_cuts.built_cut m (shows r) (omega (arith, c.width, w)) c)
+  check_anew : checks.Allowed (shown_of m) → Cut m (shows r) → Cut (checked m) (shows (check (whole flush r)))
+  check_anew w c = subst (λ x. Cut (checked m) (checked x)) (sym (flushes r b)) ((check_cuts.built_cut (shows r) (omega (arith, c.width, w))).between m c)
 
-  quota_anew : (n : ℕ) → quotas.Allowed n m → Cut m (shows r) → Cut (limited n m) (shows (quota n (whole flush r)))
-  quota_anew n w c = subst (λ x. Cut (limited n m) (limited n x)) (sym (flushes r b)) (quota_cuts.built_cut n m (shows r) (omega (arith, c.blocks, w.1)) c)
+  quota_anew : (n : ℕ) → quotas.Allowed n (shown_of m) → Cut m (shows r) → Cut (limited n m) (shows (quota n (whole flush r)))
+  quota_anew n w c = subst (λ x. Cut (limited n m) (limited n x)) (sym (flushes r b)) ((quota_cuts.built_cut n (shows r) (omega (arith, c.blocks, quotas.enough n m w))).between m c)
 
 mirror_anew : (m n : Meaning) (r s : Pile) → Built r → Built s → Alike m n → Cut m (shows r) → Cut n (shows s) → Cut (mirrored m n) (shows (mirror (whole flush r) (whole flush s)))
 mirror_anew m n r s b b' a c d =

@@ -10,7 +10,7 @@ use Rattle.tree.proofs.Puts.{five_high}
 use Rattle.page.specs.Block.{Block, block_at, kids_of, Layout}
 use Rattle.page.specs.Slot.{Root}
 use Rattle.counts.specs.Counts.{one, occ, Counted, free_blocks}
-use Rattle.counts.specs.Moves.{Move, opening, linking, State, step, run, writes}
+use Rattle.counts.specs.Moves.{Move, opening, linking, State, step, run, writes, Laid}
 use Rattle.counts.proofs.Opens.{open_counted, recount}
 use Rattle.counts.proofs.Parents.{one_same}
 use Rattle.counts.proofs.Steps.{within}
@@ -22,7 +22,7 @@ use Rattle.edit.specs.Kept.{Free, Stands}
 use Rattle.edit.specs.Fill.{opens}
 use Rattle.edit.specs.Remove.{rem_n, rem_moves}
 use Rattle.edit.specs.Edited.{Editable, Granted, Edited}
-use Rattle.edit.proofs.States.{Same, same_by, run_append}
+use Rattle.edit.proofs.States.{Same, same_by, run_append, laid_append}
 use Rattle.edit.proofs.Downs.{shallow_length}
 use Rattle.edit.proofs.Keeps.{free_open, link_stored, link_counted}
 use Rattle.edit.proofs.Removes.{remove_keeps}
@@ -244,7 +244,7 @@ module _ (m : Meaning) (cs gs : List ℕ) (root : Root) (s : ℕ) (r : model.Tre
 
         pub way_edited : Edited (takes s) r (m, cs) q₂
         way_edited =
-            edited_by m cs (takes s) r h p.counted v (opening root.1 ∷ ms) (sym u_is) each
+            edited_by m cs (takes s) r h p.counted v (opening root.1 ∷ ms) (sym u_is) each (tt, subst (λ w. Laid w ms) same₁.width M.laid)
             (λ b. sym (aimed b) ∙ sym (way_places pick b l us' (omega (arith, high, made_level)) (omega (arith, n, made_length, same_length))))
             (w.stored stands.stored) ct q₂ end
 
@@ -291,6 +291,7 @@ module _ (m : Meaning) (cs gs : List ℕ) (root : Root) (s : ℕ) (r : model.Tre
             let ly : Layout z₂.0.width (node_of l us) = subst (Layout z₂.0.width) M.is (subst (λ (z : State). Layout z.0.width made) end laid) in
             edited_by m cs (takes s) r h p.counted (l, (y, us)) vs kept
             (each_linked gs (Spare m cs) ms top each (subst (Spare m cs) (sym y_is) (spare (2 * l) (omega arith)), tt))
+            (tt, laid_append m.width ms top (subst (λ w. Laid w ms) same₁.width M.laid) (subst (λ w. Layout w (node_of l us)) (same.width ∙ same₁.width) ly, tt))
             (λ b.
             let pl : occ b (map pick (places ℕ (lower (Option ℕ) ℕ l (None, us')))) ≡ one (pick (2 * l)) b + occ b (map pick (collect ℕ ℕ (its_place ℕ) l us')) =
             ap (λ (t : tree.Root (Option ℕ) ℕ). occ b (map pick (places ℕ t))) (lower_kept (Option ℕ) l None us' (λ h n. not_one (omega (arith, h, made_level)) (omega (arith, n, made_length, same_length)))) in

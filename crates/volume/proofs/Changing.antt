@@ -52,7 +52,7 @@ module _ (t : Tables) (m : Meaning) (cs : List ℕ) (S : Kept t (m, cs)) where
   unused b e h = let q : 0 < get_or cs b 0 = (alive_is_reached (block_at m) cs (rootings t) S.counted b).1 ((use_is_reach t m S.standing b).1 h) in omega (arith, q, e)
 
   free_write : (o : Op) → WritesFree (m, cs) o → FreeWrite t m o
-  free_write (write b ws) f = (f.0, f.1, unused b f.2)
+  free_write (write b ws) f = (f.0, f.1, unused b f.2, f.3)
   free_write flush f = f
 
   -- a clone's tree

@@ -21,6 +21,7 @@ returns c = record {
   absent_number = refl;
   slots_4_5 = λ t u. refl;
   slots_6_5 = λ t u. refl;
-  slots_4_7 = λ t u. refl;
-  slots_5_4 = λ n t. refl;
+  slots_4_7 = λ f t u. refl;
+  slots_5_4 = λ f n t u. refl;
+  no_volume_number = refl;
 }
