@@ -5,3 +5,4 @@ pub mod Drops
 pub mod Granting
 pub mod Linking
 pub mod Hints
+pub mod Shown

@@ -1,7 +1,7 @@
 // A device whose tree blocks are counted by their references.
 ghost use Rattle.std.specs.Prelude.{◌≡◌, ℕ, ◌+◌, ◌-◌, ◌<◌, ◌≤◌, ◌==◌, true, false, [], ◌∷◌, length, is_some, Some, None, if◌then◌else◌, MatchResult, slice_index};
 ghost use Rattle.std.specs.Option.{option_map};
-ghost use Rattle.device.specs.Meaning.{blocks_of, reading, written, flushed};
+ghost use Rattle.device.specs.Meaning.{blocks_of, shown_of, reading, written, flushed};
 ghost use Rattle.page.specs.Block.{block_at, decode};
 ghost use Rattle.page.specs.Io.{Wide, ReadAs};
 ghost use Rattle.page.specs.Slot.{decode_slot};
@@ -11,7 +11,7 @@ ghost use Rattle.counts.specs.Keeping.{retained};
 ghost use Rattle.counts.specs.Moves.{opening, linking, step, Shaped, Owned, Held, Dropped};
 
 use super::{Counts, Grant};
-use device::{Device, DeviceFault, LayerMark};
+use device::{Device, DeviceFault, LayerMark, Reader};
 use page::io::{read_slot, write_block};
 use page::page::Page;
 use page::page_words::PageWords;
@@ -98,7 +98,7 @@ impl<D: Device> Store<D> {
     // The slot that a block holds, if it holds one.
     pub fn read_slot(&mut self, block: u32) -> Result<Option<Slot>, DeviceFault>
         ensures kept { self.new ≡ self.old }
-        ensures answer { ReadAs (λ ws s. option_map slot_of s ≡ decode_slot ws) (reading D.Device.code self.old.0 block self.old.0.width) result }
+        ensures answer { ReadAs (λ ws s. option_map slot_of s ≡ decode_slot ws) (reading D.Reader.code (shown_of self.old.0) block self.old.0.width) result }
     {
         read_slot(&mut self.device, block)
     }
@@ -143,7 +143,7 @@ impl<D: Device> Store<D> {
     // Reads a block that may hold a page, over what was read before; whether it does. If not, an empty leaf is left.
     pub fn try_load(&mut self, block: u32, page: &mut PageWords) -> Result<bool, DeviceFault>
         ensures kept { self.new ≡ self.old }
-        ensures answer { ReadAs (λ ws holds. decode ws ≡ (if holds then Some page.new else None)) (reading D.Device.code self.old.0 block self.old.0.width) result }
+        ensures answer { ReadAs (λ ws holds. decode ws ≡ (if holds then Some page.new else None)) (reading D.Reader.code (shown_of self.old.0) block self.old.0.width) result }
         ensures left { MatchResult result (λ holds. holds ≡ false → page.new ≡ record { level = 0; entries = [] }) (λ _. page.new ≡ page.old) }
     {
         page.try_load(&mut self.device, block)

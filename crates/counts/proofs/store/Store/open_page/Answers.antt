@@ -14,7 +14,7 @@ open-requires g c =
     let o = c.requires.owned in
     let cs : List ℕ = c.args.self.now.1 in
     let same : cs ≡ c.self.inside.counts.of.items = ap (λ (q : Meaning × List ℕ). q.1) (sym c.self.view_is) in
-    let few : length cs ≤ 4096 = omega (arith, ap length same, c.self.invariant.1.0, (g.D.Device.fit c.self.inside.device).few) in
+    let few : length cs ≤ 4096 = omega (arith, ap length same, c.self.invariant.1.0, (g.met.D.Device.fit c.self.inside.device).limits.few) in
     record {
       room = subst (λ ds. Roomy (kids_of (Some (view c.args.page.now))) ds) same (subst (λ o. Roomy (kids_of o) cs) c.requires.holds (roomy _ cs o.others c.args.block o.counted o.modest few));
       alive = subst (λ ds. 0 < get_or ds c.args.block 0) same (held_alive _ cs o.others c.args.block o.counted);
