@@ -4,7 +4,8 @@ use Rattle.std.specs.Option.{option_or}
 use Rattle.std.specs.Result.{MatchResult}
 use Rattle.device.specs.declared.DeviceFault.{DeviceFault}
 use Rattle.device.specs.declared.Layer.{Layer}
-use Rattle.device.specs.Meaning.{Meaning, Content, words, damaged, blocks_of, current_at, held, reading}
+use Rattle.device.specs.Meaning.{Meaning, Content, words, damaged, blocks_of, current_at, shown_of, held, reading}
+use Rattle.device.specs.Showing.{count_shown, content_shown}
 use Rattle.device.proofs.Calls.{reading_at}
 use Rattle.page.specs.Io.{ReadAs}
 use Rattle.page.specs.Block.{Block, decode, block_in, block_at}
@@ -60,8 +61,10 @@ held_ok : (k : Content) (ws : List ℕ) → held k ≡ Ok ws → k ≡ words ws
 held_ok (words vs) ws h = let e : vs ≡ ws = cc in ap words e
 held_ok (damaged k) ws h = absurd (let z : ◌≡◌ {A = ℕ} 0 1 = cc in omega arith)
 
-pub read_words : (c : Layer) (m : Meaning) (b : ℕ) (ws : List ℕ) → b < blocks_of m → reading c m b m.width ≡ Ok ws → current_at m b ≡ words ws
-read_words c m b ws lt h = held_ok (current_at m b) ws (sym (reading_at c m b m.width refl lt) ∙ h)
+pub read_words : (c : Layer) (m : Meaning) (b : ℕ) (ws : List ℕ) → b < blocks_of m → reading c (shown_of m) b m.width ≡ Ok ws → current_at m b ≡ words ws
+read_words c m b ws lt h =
+    held_ok (current_at m b) ws
+    (sym (reading_at c (shown_of m) b m.width refl (omega (arith, lt, count_shown m)) ∙ ap (λ (f : ℕ → Content). held (f b)) (content_shown m)) ∙ h)
 
 -- the answer that was good
 is_good : {T : Type 0} (F : Type 0) (r : Result T DeviceFault) (x : T) → MatchResult r (λ y. ◌≡◌ {A = Result T F} (Ok x) (Ok y)) (λ e. ⊥) → r ≡ Ok x
@@ -70,15 +73,15 @@ is_good F (Err e) x h = absurd h
 
 -- Where a block is due it was read whether there is one, b; the answer r was good.
 module _ (c : Layer) (m : Meaning) (d : Due) (lt : d.block < blocks_of m) (b : Block) (F : Type 0) (r : Result Bool DeviceFault) (holds : Bool)
-    (read : ReadAs (λ (ws : List ℕ) (t : Bool). decode ws ≡ cond t (Some b) None) (reading c m d.block m.width) r) (good : MatchResult r (λ t. ◌≡◌ {A = Result Bool F} (Ok holds) (Ok t)) (λ e. ⊥)) where
+    (read : ReadAs (λ (ws : List ℕ) (t : Bool). decode ws ≡ cond t (Some b) None) (reading c (shown_of m) d.block m.width) r) (good : MatchResult r (λ t. ◌≡◌ {A = Result Bool F} (Ok holds) (Ok t)) (λ e. ⊥)) where
   there : block_in (current_at m d.block) ≡ cond holds (Some b) None
   there =
-      let a = subst (ReadAs (λ (ws : List ℕ) (t : Bool). decode ws ≡ cond t (Some b) None) (reading c m d.block m.width)) (is_good F r holds good) read in
+      let a = subst (ReadAs (λ (ws : List ℕ) (t : Bool). decode ws ≡ cond t (Some b) None) (reading c (shown_of m) d.block m.width)) (is_good F r holds good) read in
       ap block_in (read_words c m d.block a.0 lt a.1) ∙ a.2
 
   own_of : (o : Option Block) → cond holds (Some b) None ≡ o → own_fault m d ≡ in_block (blocks_of m) d.least d.level d.low d.high d.block (λ es. None) o
   own_of o e =
-      let a = subst (ReadAs (λ (ws : List ℕ) (t : Bool). decode ws ≡ cond t (Some b) None) (reading c m d.block m.width)) (is_good F r holds good) read in
+      let a = subst (ReadAs (λ (ws : List ℕ) (t : Bool). decode ws ≡ cond t (Some b) None) (reading c (shown_of m) d.block m.width)) (is_good F r holds good) read in
       ap (in_content (blocks_of m) d.least d.level d.low d.high d.block (λ es. None)) (read_words c m d.block a.0 lt a.1)
       ∙ ap (in_block (blocks_of m) d.least d.level d.low d.high d.block (λ es. None)) (a.2 ∙ e)
 

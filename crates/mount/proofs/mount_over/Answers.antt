@@ -17,9 +17,9 @@ returns-in-Ok-clause-answer g c =
     let e : c.new-store.result.0 ≡ m = ap (λ (q : State). q.0) c.new-store.ensures in
     let a = c.in-Ok.ensures.answer in
     subst (λ m. Accepted (m, cs) x) (sym (c.count_clones.ensures.kept ∙ e))
-    (accepted m x cs (g.D.Device.fit c.args.device) (ap found (sym e) ∙ a.0) (subst (λ m. Counting (m, cs) (roots_of x.1)) (c.count_clones.ensures.kept ∙ e) a.1))
+    (accepted m x cs (g.met.D.Device.fit c.args.device) (ap found (sym e) ∙ a.0) (subst (λ m. Counting (m, cs) (roots_of x.1)) (c.count_clones.ensures.kept ∙ e) a.1))
 
 pub returns-in-Err-clause-answer : goal.returns-in-Err-clause-answer
 returns-in-Err-clause-answer g c =
     let e : c.new-store.result.0 ≡ g.D.Device.meaning c.args.device = ap (λ (q : State). q.0) c.new-store.ensures in
-    refused (g.D.Device.meaning c.args.device) c.in-Err.refusal (g.D.Device.fit c.args.device) (ap found (sym e) ∙ c.in-Err.ensures.answer)
+    refused (g.D.Device.meaning c.args.device) c.in-Err.refusal (g.met.D.Device.fit c.args.device) (ap found (sym e) ∙ c.in-Err.ensures.answer)
