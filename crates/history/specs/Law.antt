@@ -2,9 +2,12 @@
 use Rattle.std.specs.Prelude.{◌≡◌, ℕ, List, [], ◌∷◌, ◌++◌, map}
 use Rattle.device.specs.Meaning.{Meaning}
 use Rattle.device.specs.Cuts.{Op, Cutting}
-use Rattle.model.specs.Plain.{Map, Call, Answer}
+use Rattle.table.specs.Summary.{Summing}
+use Rattle.reads.specs.Summary.{summary_of}
+use Rattle.model.specs.Plain.{Map, Ask.summary, Call, Call.ask, Answer}
+use Rattle.model.specs.Plain.{Answer.done, Answer.angle, Answer.listed, Answer.joined, Answer.refused}
 use Rattle.model.specs.TreeBlocks.{Each}
-use Rattle.model.specs.World.{Mode, Mode.mounted, Event, Event.did, Event.broke, Run, Step, Formatted, bare}
+use Rattle.model.specs.World.{Mode, Mode.mounted, Event, Event.did, Event.broke, Event.lost, Run, Step, Formatted, bare}
 use Rattle.model.specs.Right.{Onward, Ends}
 use Rattle.model.specs.TwoRuns.{Twin, first, second, legal, Agree, clear}
 
@@ -22,10 +25,43 @@ module _ (V : Type 0) (join : ℕ → Map → V) (w : Mode) (m : Meaning) (e : E
   abbrev pub Law : Type 0
   Law = Onward V join w m e × OnwardBoth
 
--- The call is a step of the volume, and the law holds with it after every history that ends in s; and it would hold had the power
--- failed before or after any of its device calls.
-pub record Lawful (V : Type 0) (join : ℕ → Map → V) (s : Mode × Meaning) (c : Call) (a : Answer V) (s' : Mode × Meaning) : Type 0 where
+-- A history may mix summaries of any kinds and types. What the law records of a summary is its number among the kinds of the
+-- history and the rows that it joins: any value that is made of them follows.
+abbrev pub Rows : Type 0
+Rows = ℕ × Map
+
+abbrev pub as_rows : ℕ → Map → Rows
+as_rows k rows = (k, rows)
+
+-- an answer whose summary is made from another
+abbrev pub mapped : {A B : Type 0} → (A → B) → Answer A → Answer B
+mapped f done = done
+mapped f (angle o) = angle o
+mapped f (listed rs) = listed rs
+mapped f (joined v) = joined (f v)
+mapped f (refused r) = refused r
+
+-- the call, with its summary's number among the kinds
+abbrev pub of_kind : ℕ → Call → Call
+of_kind k (ask (summary j n)) = ask (summary k n)
+of_kind k c = c
+
+-- The call is a step of the volume, and the law holds with it after every history that ends in s, whatever number its summary has there; and it would
+-- hold had the power failed before or after any of its device calls. What it answers of a summary is the summary of the rows.
+pub record Lawful {S : Type 0} (x : Summing S) (s : Mode × Meaning) (c : Call) (a : Answer S) (s' : Mode × Meaning) : Type 0 where
   pub os : List Op
-  pub step : Step V join s.0 s.1 c a os s'.0 s'.1
-  pub whole : Law V join s.0 s.1 (did c a os s'.0 s'.1)
-  pub cut : (k : ℕ) (κ : Cutting) → Law V join s.0 s.1 (broke c os k κ)
+  pub answer : Answer Map
+  pub summed : a ≡ mapped (summary_of x) answer
+  pub step : (k : ℕ) → Step Rows as_rows s.0 s.1 (of_kind k c) (mapped (as_rows k) answer) os s'.0 s'.1
+  pub whole : (k : ℕ) → Law Rows as_rows s.0 s.1 (did (of_kind k c) (mapped (as_rows k) answer) os s'.0 s'.1)
+  pub cut : (k i : ℕ) (κ : Cutting) → Law Rows as_rows s.0 s.1 (broke (of_kind k c) os i κ)
+
+-- A history with its summaries' rows is one of every family of joins: its summaries are those of the family.
+abbrev pub shown : {V : Type 0} → (ℕ → Map → V) → Event Rows → Event V
+shown join (did c a os w m) = did c (mapped (λ v. join v.0 v.1) a) os w m
+shown join (broke c os k κ) = broke c os k κ
+shown join (lost κ) = lost κ
+
+abbrev pub EveryFamily : (V : Type 0) → Type 0
+EveryFamily V =
+    (join : ℕ → Map → V) (w : Mode) (m : Meaning) (es : List (Event Rows)) → Run Rows as_rows w m es → Run V join w m (map (shown join) es)

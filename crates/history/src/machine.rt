@@ -149,7 +149,7 @@ pub fn perform<D: Device, S: Summary>(
     call: Call,
     out: &mut [Pair],
 ) -> (Machine<D>, Result<Answer<S>, Denied>)
-    ensures law { Outcome (Lawful S (summed S.summing)) out.new (state_of D.Device.meaning machine) (call_of (length out.old) call) result.1 (state_of D.Device.meaning result.0) }
+    ensures law { Outcome (Lawful S.summing) out.new (state_of D.Device.meaning machine) (call_of (length out.old) call) result.1 (state_of D.Device.meaning result.0) }
     ensures slice { Filled (shown result.1) out.old out.new }
 {
     step(machine, call, out)

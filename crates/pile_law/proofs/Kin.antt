@@ -7,7 +7,7 @@ use Rattle.device.proofs.Choices.{cut_at, cut_blocks, flush_at, write_at, write_
 use Rattle.check_layer.specs.Checked.{checked, checked_cell, checked_content, check_of, with_check}
 use Rattle.check_layer.proofs.Follows as checks
 use Rattle.check_layer.proofs.Follows.{content_written}
-use Rattle.quota.specs.Limited.{limited, limited_blocks, raised_content}
+use Rattle.quota.specs.Limited.{limited, limited_blocks, raised_content, enough}
 use Rattle.quota.proofs.Follows.{cell_limited}
 use Rattle.mirror.specs.Mirrored.{mirrored, mirrored_blocks, pick}
 use Rattle.mirror.proofs.Follows.{cell_mirrored}
@@ -114,7 +114,7 @@ kin_shows b n (check p) (check q) u v h k =
     let h' : b < blocks_of (shows p) = omega (arith, blocks_checked (shows p)) in
     kin_check b n (shows p) (shows q) h' (kin_shows b (suc n) p q u.0 v.0 h' k)
 kin_shows b n (quota i p) (quota j q) u v h k =
-    let few = u.1.1 in
+    let few : i ≤ blocks_of (shows p) = enough i (shows p) u.1 in
     let h' : b < i = omega (arith, limited_blocks i (shows p) few) in
     let h'' : b < blocks_of (shows p) = omega arith in
     subst (λ j. KinBlock b n (limited i (shows p)) (limited j (shows q))) k.0
@@ -180,7 +180,7 @@ kin_whole b n (check p) (check q) o o₂ u v h x a a₂ s =
     kin_whole b (suc n) p q (handed o) (handed o₂) u.0 v.0 (omega (arith, blocks_checked (shows p))) x
     (check_accepts (shows p) u.1 o a) (check_accepts (shows q) v.1 o₂ a₂) (same_handed b n o o₂ s)
 kin_whole b n (quota i p) (quota j q) o o₂ u v h x a a₂ s =
-    let few = u.1.1 in (
+    let few : i ≤ blocks_of (shows p) = enough i (shows p) u.1 in (
       x.0,
       kin_whole b n p q o o₂ u.0 v.0 (omega (arith, limited_blocks i (shows p) few)) x.1
           (quota_accepts i (shows p) u.1 o a) (quota_accepts j (shows q) v.1 o₂ a₂) s,

@@ -1,7 +1,7 @@
 -- The same choices at the bottoms of two piles come out at the top as one cut of two runs.
 use Rattle.std.proofs.Common.{◌≡◌, ℕ, zero, suc, ◌-◌, ◌<◌, ◌≤◌, min, cond, ltb, ◌||◌, Bool, true, false, List, [], sym, refl, ap, ◌∙◌, subst, subst₂, ap₂, arith}
 use Rattle.std.proofs.lemmas.List.{length-map}
-use Rattle.device.specs.Meaning.{Meaning, Content, Cell, Lawful, Cut, raised, flushed, flushed_cell, blocks_of, cell_at, current_at}
+use Rattle.device.specs.Meaning.{Meaning, Content, Cell, Lawful, Cut, raised, flushed, flushed_cell, blocks_of, cell_at, current_at, shown_of}
 use Rattle.device.specs.Mapped.{mapped_cell}
 use Rattle.device.specs.Cuts.{Op, Op.write, Op.flush, Choice, Choice.persisted, Choice.current, Choice.other, Cutting, Fits, keeps_persisted, apply, remains, cut}
 use Rattle.device.proofs.Choices.{cuts_agree, cut_at, flush_at, blocks_apply}
@@ -39,10 +39,10 @@ module _ (b : ℕ) (m : Meaning) (r : Pile) (u : Built r) (z : Shape m (shows r)
       ∙ ap (λ (c : Cell). checked_content ((shows r).width - 1) c.current) (flush_at (shows r) b)
       ∙ ap (λ w. checked_content (w - 1) (current_at (shows r) b)) z.width
 
-  quota_left : (n : ℕ) (w : quotas.Allowed n m) → b < n → current_at (shows (quota n (whole flush r))) b ≡ raised_content (current_at (shows r) b)
+  quota_left : (n : ℕ) (w : quotas.Allowed n (shown_of m)) → b < n → current_at (shows (quota n (whole flush r))) b ≡ raised_content (current_at (shows r) b)
   quota_left n w i =
       ap (λ x. current_at (limited n x) b) (flushes r u)
-      ∙ ap (λ (c : Cell). c.current) (cell_limited n (flushed (shows r)) (omega (arith, w.1, z.blocks, length-map (shows r).cells flushed_cell)) b i)
+      ∙ ap (λ (c : Cell). c.current) (cell_limited n (flushed (shows r)) (omega (arith, quotas.enough n m w, z.blocks, length-map (shows r).cells flushed_cell)) b i)
       ∙ ap (λ (c : Cell). raised_content c.current) (flush_at (shows r) b)
 
   mirror_left : (t : Pile) → Built t → current_at (shows (mirror (whole flush r) (whole flush t))) b ≡ pick (current_at (shows r) b) (current_at (shows t) b)
@@ -113,8 +113,9 @@ joint b n (check p) (check q) K K₂ u v h x c c₂ e =
 joint b n (quota l p) (quota j q) K K₂ u v h x c c₂ e =
     let m = shows p in
     let m₂ = shows q in
-    let b< : b < l = omega (arith, limited_blocks l m u.1.1) in
-    let h' : b < blocks_of m = omega (arith, u.1.1) in
+    let few : l ≤ blocks_of m = quotas.enough l m u.1 in
+    let b< : b < l = omega (arith, limited_blocks l m few) in
+    let h' : b < blocks_of m = omega (arith, few) in
     let w = kin_shows b n p q u.0 v.0 h' x.1 in
     let h₂ : b < blocks_of m₂ = omega (arith, w.blocks) in
     let b<₂ : b < j = omega (arith, x.0) in
@@ -123,7 +124,7 @@ joint b n (quota l p) (quota j q) K K₂ u v h x c c₂ e =
     let r₂ = left_by K₂ q in
     let z = made p (cut_bottoms K p) u.0 c.1 in
     let z₂ = made q (cut_bottoms K₂ q) v.0 c₂.1 in
-    both_moved (cell_limited l m u.1.1 b b<) (cell_limited j m₂ v.1.1 b b<₂) (quota_left b m r z.0 z.1 h' l u.1 b<) (quota_left b m₂ r₂ z₂.0 z₂.1 h₂ j v.1 b<₂)
+    both_moved (cell_limited l m few b b<) (cell_limited j m₂ (quotas.enough j m₂ v.1) b b<₂) (quota_left b m r z.0 z.1 h' l u.1 b<) (quota_left b m₂ r₂ z₂.0 z₂.1 h₂ j v.1 b<₂)
     (both_map raised_content (cell_at m b) (cell_at m₂ b) (current_at (shows r) b) (current_at (shows r₂) b) i)
 joint b n (mirror p q) (mirror p₂ q₂) K K₂ u v h x c c₂ e =
     let m = shows p in
@@ -248,12 +249,12 @@ at_rest p p₂ K K₂ u v two x c c₂ e =
     )
 
 -- what fitting choices leave of the bottoms is a cut of them
-fitting_bottom : (o : Op) (d : Bool) (κ : Cutting) (m : Meaning) → Lawful m → Accepts m o → ((b : ℕ) → Fits m.width (κ.choice b)) → κ.left ≤ 4294967295 → Cut (if_done d o m) (cut κ (if_done d o m))
-fitting_bottom o false κ m l a f h = cuts_agree.0 κ m l f h
-fitting_bottom o true κ m l a f h = cuts_agree.0 κ (apply o m) (apply_lawful o m a l) (λ b. subst (λ w. Fits w (κ.choice b)) (sym (width_apply o m)) (f b)) h
+fitting_bottom : (o : Op) (d : Bool) (κ : Cutting) (m : Meaning) → Lawful m → Accepts m o → ((b : ℕ) → Fits m.width (κ.choice b)) → κ.left ≤ 4294967295 → κ.left_mark.depth ≤ 255 → Cut (if_done d o m) (cut κ (if_done d o m))
+fitting_bottom o false κ m l a f h i = cuts_agree.0 κ m l f h i
+fitting_bottom o true κ m l a f h i = cuts_agree.0 κ (apply o m) (apply_lawful o m a l) (λ b. subst (λ w. Fits w (κ.choice b)) (sym (width_apply o m)) (f b)) h i
 
 pub fitting : (o : Op) (d : PerBottom Bool) (K : PerBottom Cutting) (p : Pile) → Built p → Accepts (shows p) o → Fitting K p → Cuts (part o d p) (cut_bottoms K (part o d p))
-fitting o d K (bottom m) u a f = fitting_bottom o (d []) (K []) m u a f.0 f.1
+fitting o d K (bottom m) u a f = fitting_bottom o (d []) (K []) m u a f.0 f.1 f.2
 fitting o d K (check p) u a f = fitting (handed o) d K p u.0 (check_accepts (shows p) u.1 o a) f
 fitting o d K (quota n p) u a f = (refl, fitting o d K p u.0 (quota_accepts n (shows p) u.1 o a) f)
 fitting o d K (mirror p q) u a f = (

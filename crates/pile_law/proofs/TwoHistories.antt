@@ -37,7 +37,7 @@ kin_refl b n (mirror p q) = (kin_refl b n p, kin_refl b n q)
 
 -- choices fit after a call too
 fitting_whole : (o : Op) (K : PerBottom Cutting) (p : Pile) → Fitting K p → Fitting K (whole o p)
-fitting_whole o K (bottom m) f = ((λ b. subst (λ w. Fits w ((K []).choice b)) (sym (width_apply o m)) (f.0 b)), f.1)
+fitting_whole o K (bottom m) f = ((λ b. subst (λ w. Fits w ((K []).choice b)) (sym (width_apply o m)) (f.0 b)), f.1, f.2)
 fitting_whole o K (check p) f = fitting_whole (handed o) K p f
 fitting_whole o K (quota n p) f = fitting_whole o K p f
 fitting_whole o K (mirror p q) f = (fitting_whole o (on false K) p f.0, fitting_whole o (on true K) q f.1)

@@ -56,7 +56,7 @@ cut_bottoms K (mirror p q) = mirror (cut_bottoms (on false K) p) (cut_bottoms (o
 
 -- choices that the bottoms can hold
 abbrev pub Fitting : PerBottom Cutting → Pile → Type 0
-Fitting K (bottom m) = ((b : ℕ) → Fits m.width ((K []).choice b)) × ((K []).left ≤ 4294967295)
+Fitting K (bottom m) = ((b : ℕ) → Fits m.width ((K []).choice b)) × ((K []).left ≤ 4294967295) × ((K []).left_mark.depth ≤ 255)
 Fitting K (check p) = Fitting K p
 Fitting K (quota n p) = Fitting K p
 Fitting K (mirror p q) = Fitting (on false K) p × Fitting (on true K) q
