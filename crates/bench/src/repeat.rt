@@ -26,9 +26,9 @@ fn commits<D: Device + Drop>(mut volume: Volume<D>, rows: u32, times: u32) -> an
 }
 
 // Mounts the device so many times.
-fn mounts<D: Device + Drop>(heap: Global, mut device: D, times: u32) -> anyhow::Result<()> {
+fn mounts<D: Device + Drop>(mut device: D, times: u32) -> anyhow::Result<()> {
     for _ in 0..times {
-        device = mount(heap, device)?.into_device();
+        device = mount(device)?.into_device();
     }
     Ok(())
 }
@@ -36,11 +36,11 @@ fn mounts<D: Device + Drop>(heap: Global, mut device: D, times: u32) -> anyhow::
 // Makes the call of a name so many times, on a clone of so many rows.
 pub(crate) fn repeat(heap: Global, name: &str, rows: u32, times: u32) -> anyhow::Result<()> {
     let mut words = Words::blank(heap, BLOCKS, WIDTH)?;
-    let device = fill(heap, words.open()?, rows)?;
+    let device = fill(words.open()?, rows)?;
     if name == "mount" {
-        return mounts(heap, device, times);
+        return mounts(device, times);
     }
-    let mut volume = mount(heap, device)?;
+    let mut volume = mount(device)?;
     if name == "commit" {
         return commits(volume, rows, times);
     }

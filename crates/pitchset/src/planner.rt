@@ -145,8 +145,8 @@ fn print_answer(rt: &HostRuntime, call: Call, answer: Answered) -> anyhow::Resul
 }
 
 // Asks a machine.
-fn ask<D: Device>(rt: &HostRuntime, machine: Machine<D>, ask: Ask) -> (Machine<D>, Answered) {
-    perform(machine, rt.alloc(), Call::Ask(ask), &mut [])
+fn ask<D: Device>(machine: Machine<D>, ask: Ask) -> (Machine<D>, Answered) {
+    perform(machine, Call::Ask(ask), &mut [])
 }
 
 // Makes the calls one after the other, and prints each with its answer.
@@ -156,7 +156,7 @@ fn make<D: Device + Drop>(
     calls: &[Call],
 ) -> anyhow::Result<Machine<D>> {
     for call in calls {
-        let (next, answer) = perform(machine, rt.alloc(), *call, &mut []);
+        let (next, answer) = perform(machine, *call, &mut []);
         print_answer(rt, *call, answer)?;
         machine = next;
     }
@@ -174,7 +174,7 @@ fn put_type<D: Device + Drop>(
             speed: *speed,
             angle: *angle,
         };
-        let (next, answer) = ask(rt, machine, put);
+        let (next, answer) = ask(machine, put);
         answer?;
         machine = next;
     }
@@ -190,7 +190,7 @@ fn fill_up<D: Device + Drop>(
 ) -> anyhow::Result<Machine<D>> {
     for clone in 4..24 {
         let create = Ask::Create { clone };
-        let (next, answer) = ask(rt, machine, create);
+        let (next, answer) = ask(machine, create);
         machine = next;
         if answer.is_err() {
             print_answer(rt, Call::Ask(create), answer)?;
@@ -198,7 +198,7 @@ fn fill_up<D: Device + Drop>(
         }
     }
     for clone in 4..24 {
-        let (next, _) = ask(rt, machine, Ask::Delete { clone });
+        let (next, _) = ask(machine, Ask::Delete { clone });
         machine = next;
     }
     Ok(machine)
@@ -213,7 +213,7 @@ fn compare<D: Device + Drop>(
     for clone in CLONES {
         let list = Call::Ask(Ask::List { clone, speed: 0 });
         let mut rows = vec![in rt.alloc(); Pair::default(); 32]?;
-        let (next, answer): (Machine<D>, Answered) = perform(machine, rt.alloc(), list, &mut rows);
+        let (next, answer): (Machine<D>, Answered) = perform(machine, list, &mut rows);
         machine = next;
         let Answer::Listed(count) = answer? else {
             return Err(anyhow!("a list is answered by rows"));
@@ -227,7 +227,7 @@ fn compare<D: Device + Drop>(
 
 // Formats the device, keeps the type's table and its turbines' on it, commits, and changes them once more.
 pub(crate) fn before_the_cut<D: Device + Drop>(rt: &HostRuntime, device: D) -> anyhow::Result<D> {
-    let Ok(machine) = Machine::format(rt.alloc(), device) else {
+    let Ok(machine) = Machine::format(device) else {
         return Err(anyhow!("the pile cannot be formatted"));
     };
     println!(rt;

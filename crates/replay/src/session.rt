@@ -75,7 +75,7 @@ fn make<S: Shown, D: Device + Drop>(
 ) -> Result<Machine<D>, Stop> {
     let mut rows = vec![in heap; Pair::default(); room.min(ROWS) as usize]?;
     let (machine, answer): (Machine<D>, Result<Answer<S>, Denied>) = perform(
-        machine, heap, call, &mut rows,
+        machine, call, &mut rows,
     );
     print_answer(out, answer, &rows)?;
     Ok(machine)
@@ -92,14 +92,9 @@ fn sum_up<S: Shown, D: Device + Drop>(
 }
 
 // The power fails.
-fn cut<D: Restart>(
-    heap: Global,
-    out: &mut String,
-    machine: Machine<D>,
-    cut: Cut,
-) -> Result<Machine<D>, Stop> {
+fn cut<D: Restart>(out: &mut String, machine: Machine<D>, cut: Cut) -> Result<Machine<D>, Stop> {
     writeln!(out, "ok")?;
-    Ok(Machine::Down(machine.into_device().restart(heap, cut)?))
+    Ok(Machine::Down(machine.into_device().restart(cut)?))
 }
 
 // A device without power gets other words.
@@ -129,12 +124,12 @@ fn take<D: Restart>(
         (Line::Count { clone }, machine) => sum_up::<Count, D>(heap, out, machine, clone),
         (Line::Span { clone }, machine) => sum_up::<Span, D>(heap, out, machine, clone),
         (Line::Sum { clone }, machine) => sum_up::<Sum, D>(heap, out, machine, clone),
-        (Line::Cut(fate), machine) => cut(heap, out, machine, fate),
+        (Line::Cut(fate), machine) => cut(out, machine, fate),
         (Line::FinishLost, Machine::Sealed(volume)) => {
-            cut(heap, out, Machine::Sealed(volume), Cut::Old)
+            cut(out, Machine::Sealed(volume), Cut::Old)
         },
         (Line::FinishKept, Machine::Sealed(volume)) => {
-            cut(heap, out, Machine::Mounted(volume.finish()), Cut::Old)
+            cut(out, Machine::Mounted(volume.finish()), Cut::Old)
         },
         (Line::Raw(patch), Machine::Down(device)) => overwrite(out, device, &patch),
         (Line::FinishLost | Line::FinishKept | Line::Raw(_), machine) => {
@@ -151,9 +146,7 @@ pub(crate) fn replay<D: Restart>(
     device: D,
     lines: Lines<'_>,
 ) -> Result<D, Stop> {
-    let mut machine = Machine::format(heap, device).map_err(|(_, refusal)| Stop::Unformatted(
-        refusal,
-    ))?;
+    let mut machine = Machine::format(device).map_err(|(_, refusal)| Stop::Unformatted(refusal))?;
     for line in lines {
         match parse(heap, line)? {
             None => writeln!(out, "bad line")?,
