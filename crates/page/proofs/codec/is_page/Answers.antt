@@ -1,10 +1,10 @@
-use Rattle.std.proofs.Common.{◌≡◌, ℕ, ◌*◌, ◌+◌, ◌/◌, ◌%◌, ◌<◌, ◌≤◌, ◌&&◌, eqb, get_or, drop, sym, ap, ◌∙◌, subst, ⊎_elim, arith, rules, tests}
+use Rattle.std.proofs.Common.{◌≡◌, ℕ, ◌*◌, ◌+◌, ◌/◌, ◌%◌, ◌≤◌, ◌&&◌, eqb, get_or, drop, sym, ap, ◌∙◌, subst, ⊎_elim, arith, rules, tests}
 use Rattle.std.proofs.lemmas.Bool.{eq-eqb, eqb-true, and_parts, and_from, cases_eq}
 use Rattle.std.proofs.lemmas.Iterator.{YieldsList-from_slice}
 use Rattle.std.proofs.lemmas.Iterator.Search.{all_from_yields_List}
 use Rattle.std.proofs.lemmas.Slice.{between_to_end}
 use Rattle.word.specs.Words.{word_of, payload_of}
-use Rattle.page.specs.Block.{value_kind, header_of}
+use Rattle.page.specs.Block.{header_of}
 use Rattle.page.proofs.Judged.{Pair, judged, own_pair, own_rest, all_own}
 use Rattle.page.proofs.codec.is_page.Goals as goal
 
