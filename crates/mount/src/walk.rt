@@ -57,12 +57,13 @@ fn upper(page: &PageWords, i: usize, high: u32) -> u32
 fn is_ascending(page: &PageWords, high: u32) -> bool
     ensures { result ≡ ascending high page.now.entries }
 {
-    for i in 0..page.len() {
-        if page.speed(i) >= upper(page, i, high) {
-            return false;
-        }
+    let len = page.len();
+    let mut ascending = true;
+    for i in 1..len {
+        let rises = page.speed(i - 1) < page.speed(i);
+        ascending &= rises;
     }
-    true
+    ascending && (len == 0 || page.speed(len - 1) < high)
 }
 
 fn is_payable(page: &PageWords, i: usize, level: u32, blocks: u32) -> bool
@@ -80,12 +81,11 @@ fn is_payable(page: &PageWords, i: usize, level: u32, blocks: u32) -> bool
 fn are_payable(page: &PageWords, level: u32, blocks: u32) -> bool
     ensures { result ≡ every (payable blocks level) page.now.entries }
 {
+    let mut payable = true;
     for i in 0..page.len() {
-        if !is_payable(page, i, level, blocks) {
-            return false;
-        }
+        payable &= is_payable(page, i, level, blocks);
     }
-    true
+    payable
 }
 
 fn starts_at(page: &PageWords, level: u32, low: u32) -> bool

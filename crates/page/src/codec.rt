@@ -43,12 +43,13 @@ pub fn is_page(words: &[u32]) -> bool
     if len > 15 || level > 4 || words[0] != header_word(level, len as u32) || words[1] != 0 {
         return false;
     }
+    let kind = value_kind(level);
+    let mut kinds = true;
     for i in 0..len {
-        if !is_of(words[2 * i + 2], Kind::Speed) || !is_of(words[2 * i + 3], value_kind(level)) {
-            return false;
-        }
+        kinds &= is_of(words[2 * i + 2], Kind::Speed);
+        kinds &= is_of(words[2 * i + 3], kind);
     }
-    words[2 * len + 2..].iter().all(|word| *word == 0)
+    kinds && words[2 * len + 2..].iter().all(|word| *word == 0)
 }
 
 impl Stored for Page {
