@@ -181,7 +181,7 @@ impl Sides {
         ensures opened { MatchResult result
             (λ s. ⟦<Mirrored<'static> as Device>⟧.meaning s ≡ shown self.old)
             (λ fault. Refused fault self.old) }
-        ensures cut { Outlasts self.old (shown self.old) }
+        ensures cut { IfOk result (λ s. Outlasts self.old (⟦<Mirrored<'static> as Device>⟧.meaning s)) }
     {
         let blocks = self.blocks;
         let width = self.words.width;

@@ -7,7 +7,8 @@ use Rattle.medium.specs.Built.{Buildable, built}
 use Rattle.medium.specs.Held.{opened}
 use Rattle.medium.specs.Sides.{LogShaped, LogFormed, Refused, log_shown, shown}
 use Rattle.medium.specs.declared.Fault.{Fault}
-use Rattle.medium.proofs.Moved.{moved, failed}
+use Rattle.medium.proofs.Moved.{moved, failed, shown_so}
+use Rattle.medium.specs.Outlasts.{Outlasts}
 use Rattle.medium.proofs.Outlasts.{sides_outlast}
 use Rattle.medium.proofs.Sides.open.Goals as goal
 
@@ -38,12 +39,12 @@ returns-clause-opened c =
     (λ e h. subst (λ fault. Refused fault s) (sym h.0) (inr (shaped, formed, λ _ b. h.1 (subst₂ Buildable (sym p) (sym q) b))))
     c.checked_mirror.result c.checked_mirror.ensures
 
--- whatever is answered
 pub returns-clause-cut : goal.returns-clause-cut
-returns-clause-cut c = sides_outlast c.args.self.now
-
-pub returns-in_err-memory-clause-cut : goal.returns-in_err-memory-clause-cut
-returns-in_err-memory-clause-cut c = sides_outlast c.args.self.now
-
-pub returns-in_err-log-clause-cut : goal.returns-in_err-log-clause-cut
-returns-in_err-log-clause-cut c = sides_outlast c.args.self.now
+returns-clause-cut c =
+    let s = c.args.self.now in
+    let log = c.in_ok-log.log in
+    let image : c.deref_mut.result.now ≡ s.image.items = c.deref_mut.ensures.value in
+    let p : memory (parts_of c.in_ok-memory.memory.slices c.in_ok-memory.memory.width) ≡ opened s.words = c.in_ok-memory.ensures in
+    let q : log_of log.image.now log.layout.blocks log.layout.width log.count ≡ log_shown s
+    = c.in_ok-log.ensures.opened.2 ∙ ap (λ (img : List ℕ). opened_log img s.blocks s.words.width) image in
+    shown_so _ (Outlasts s) _ _ (subst (Outlasts s) (sym (ap₂ built p q)) (sides_outlast s)) c.checked_mirror.result c.checked_mirror.ensures
