@@ -2,3 +2,4 @@ pub mod Held
 pub mod Built
 pub mod Faults
 pub mod Sides
+pub mod Outlasts

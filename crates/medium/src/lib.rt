@@ -9,6 +9,7 @@ ghost use Rattle.medium.specs.Held.{held, opened};
 ghost use Rattle.medium.specs.Built.{Buildable, built};
 ghost use Rattle.medium.specs.Faults.{fault_number, log_fault};
 ghost use Rattle.medium.specs.Sides.{Planned, shown, Refused};
+ghost use Rattle.medium.specs.Outlasts.{Outlasts};
 ghost use Rattle.medium.specs.declared.Fault.{Fault};
 
 use check_layer::Check;
@@ -175,11 +176,12 @@ impl Sides {
         self.words.current.fill(GARBAGE);
     }
 
-    // Opens both sides, and builds the layers over them.
+    // Opens both sides, and builds the layers over them. What it shows after a cut of the power is a cut of what was shown.
     pub fn open(&mut self) -> Result<Mirrored<'_>, Fault>
-        ensures { MatchResult result
+        ensures opened { MatchResult result
             (λ s. ⟦<Mirrored<'static> as Device>⟧.meaning s ≡ shown self.old)
             (λ fault. Refused fault self.old) }
+        ensures cut { IfOk result (λ s. Outlasts self.old (⟦<Mirrored<'static> as Device>⟧.meaning s)) }
     {
         let blocks = self.blocks;
         let width = self.words.width;

@@ -1,17 +1,17 @@
 -- Every history on a pile is one of the device that it shows.
 use Rattle.std.proofs.Common.{◌≡◌, ℕ, zero, suc, ◌⊎◌, Bool, true, false, List, [], ◌∷◌, take, sym, refl, ap, ◌∙◌, subst, inl, inr, ⊎_elim, arith}
-use Rattle.device.specs.Meaning.{Cut}
+use Rattle.device.specs.Meaning.{Meaning, Cut}
 use Rattle.device.specs.Cuts.{Op, apply, replay}
 use Rattle.device.proofs.Choices.{cuts_agree}
-use Rattle.model.specs.Plain.{Map}
-use Rattle.model.specs.World.{Mode, Mode.mounted, Mode.down, Event, Event.did, Event.broke, Event.lost, Run, bare}
+use Rattle.model.specs.Plain.{Map, Call, Answer}
+use Rattle.model.specs.World.{Mode, Mode.mounted, Mode.down, Event, Event.did, Event.broke, Event.lost, Step, Run, bare}
 use Rattle.model.specs.World.{model_of}
 use Rattle.model.specs.Model.{Model}
 use Rattle.model.proofs.Ideal.{next, broken, cut_model}
 use Rattle.model.proofs.Histories.{Fine, step_fine, broke_fine, idle_cut, formatted_fine}
 use Rattle.model.proofs.Right.{histories}
-use Rattle.piles.specs.Piles.{Pile, shows, Built, PerBottom, if_done, whole, Accepts, Cuts, anew, counts}
-use Rattle.pile_law.specs.Histories.{calls, moment, Below, Below.called, Below.failed, Below.cut, RunBelow, AllSeen, PilesKeepTheLaw}
+use Rattle.piles.specs.Piles.{Pile, shows, Built, PerBottom, if_done, whole, Accepts, Cuts, anew, counts, calls}
+use Rattle.pile_law.specs.Histories.{moment, Below, Below.called, Below.failed, Below.cut, RunBelow, AllSeen, PilesKeepTheLaw}
 use Rattle.piles.proofs.Devices.{shows_whole, built_whole}
 use Rattle.piles.proofs.Rise.{cuts_rise, rest, made}
 use Rattle.pile_law.proofs.Accepted.{AcceptsAll, Spare, step_accepted}
@@ -95,6 +95,12 @@ module _ (V : Type 0) (join : ℕ → Map → V) where
       (lost κ.0 ∷ t.0, (tt, t.1), subst (λ m. Run V join down m t.0) κ.2 t.2)
 
 pub piles_keep_the_law : (V : Type 0) → PilesKeepTheLaw V
-piles_keep_the_law V join p es b f r =
+piles_keep_the_law V p b join es f r =
     let t = rises V join es (mounted bare) p (model_of bare (shows p)) b (formatted_fine V join (shows p) f) tt r in
     (t.0, t.1, t.2, (histories V).0 join (shows p) t.0 f t.2)
+
+-- a call of a device that is a pile
+pub call_event : (V : Type 0) (join : ℕ → Map → V) (w w' : Mode) (c : Call) (a : Answer V) (os : List Op) (es : List (Below V)) (p q : Pile) (m m' : Meaning)
+    → shows p ≡ m → q ≡ calls os p → Step V join w m c a os w' m' → RunBelow V join w' q es → RunBelow V join w p (called c a os w' ∷ es)
+call_event V join w w' c a os es p q m m' e f S R =
+    (subst (λ x. Step V join w x c a os w' (replay os x)) (sym e) (subst (Step V join w m c a os w') S.0 S), subst (λ x. RunBelow V join w' x es) f R)

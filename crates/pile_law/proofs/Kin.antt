@@ -4,14 +4,14 @@ use Rattle.std.proofs.lemmas.List.{length-map, length-append}
 use Rattle.device.specs.Meaning.{Meaning, Content, words, damaged, Cell, flushed, flushed_cell, written, written_cell, blocks_of, cell_at}
 use Rattle.device.specs.Cuts.{Op, Op.write, Op.flush, Choice, Choice.persisted, Choice.current, Choice.other, Cutting, apply, remains, cut}
 use Rattle.device.proofs.Choices.{cut_at, cut_blocks, flush_at, write_at, write_off, blocks_apply}
-use Rattle.check_layer.specs.Checked.{checked, checked_cell, checked_content, check_of, with_check}
+use Rattle.check_layer.specs.Checked.{checked, checked_cell, checked_content, check_of, with_check, below_op}
 use Rattle.check_layer.proofs.Follows as checks
 use Rattle.check_layer.proofs.Follows.{content_written}
 use Rattle.quota.specs.Limited.{limited, limited_blocks, raised_content, enough}
 use Rattle.quota.proofs.Follows.{cell_limited}
 use Rattle.mirror.specs.Mirrored.{mirrored, mirrored_blocks, pick}
 use Rattle.mirror.proofs.Follows.{cell_mirrored}
-use Rattle.piles.specs.Piles.{Pile, Pile.bottom, Pile.check, Pile.quota, Pile.mirror, shows, Built, PerBottom, on, handed, whole, Accepts, anew}
+use Rattle.piles.specs.Piles.{Pile, Pile.bottom, Pile.check, Pile.quota, Pile.mirror, shows, Built, PerBottom, on, whole, Accepts, anew}
 use Rattle.piles.proofs.Devices.{check_accepts, quota_accepts, first_accepts, second_accepts}
 use Rattle.pile_law.specs.TwoPiles.{through, Kin, KinCell, KinBlock, KinPile, SameCall, cut_bottoms}
 use Rattle.pile_law.proofs.Kept.{is_words}
@@ -125,15 +125,15 @@ kin_shows b n (mirror p q) (mirror r s) u v h k =
     (kin_shows b n p r u.0 v.0 h' k.0) (kin_shows b n q s u.1 v.1 (omega (arith, u.2.shape.0)) k.1)
 kin_shows b n p q u v h k = absurd k
 
-pub same_handed : (b n : ℕ) (o o₂ : Op) → SameCall b n o o₂ → SameCall b (suc n) (handed o) (handed o₂)
-same_handed b n (write x us) (write y vs) h =
+pub same_below : (b n : ℕ) (o o₂ : Op) → SameCall b n o o₂ → SameCall b (suc n) (below_op o) (below_op o₂)
+same_below b n (write x us) (write y vs) h =
     ⊎_elim
     (λ h. inl (h.0, h.1, (h.2.0, ap with_check h.2.1), (h.3.0, ap with_check h.3.1)))
     (λ h. inr h)
     h
-same_handed b n flush flush h = tt
-same_handed b n (write x us) flush h = absurd h
-same_handed b n flush (write y vs) h = absurd h
+same_below b n flush flush h = tt
+same_below b n (write x us) flush h = absurd h
+same_below b n flush (write y vs) h = absurd h
 
 -- after a call
 kin_flush : (b n : ℕ) (m m₂ : Meaning) → KinBlock b n m m₂ → KinBlock b n (flushed m) (flushed m₂)
@@ -177,8 +177,8 @@ pub kin_whole : (b n : ℕ) (p p₂ : Pile) (o o₂ : Op) → Built p → Built 
     → Accepts (shows p) o → Accepts (shows p₂) o₂ → SameCall b n o o₂ → KinPile b n (whole o p) (whole o₂ p₂)
 kin_whole b n (bottom m) (bottom m₂) o o₂ u v h x a a₂ s = kin_apply b n m m₂ o o₂ h a a₂ s x
 kin_whole b n (check p) (check q) o o₂ u v h x a a₂ s =
-    kin_whole b (suc n) p q (handed o) (handed o₂) u.0 v.0 (omega (arith, blocks_checked (shows p))) x
-    (check_accepts (shows p) u.1 o a) (check_accepts (shows q) v.1 o₂ a₂) (same_handed b n o o₂ s)
+    kin_whole b (suc n) p q (below_op o) (below_op o₂) u.0 v.0 (omega (arith, blocks_checked (shows p))) x
+    (check_accepts (shows p) u.1 o a) (check_accepts (shows q) v.1 o₂ a₂) (same_below b n o o₂ s)
 kin_whole b n (quota i p) (quota j q) o o₂ u v h x a a₂ s =
     let few : i ≤ blocks_of (shows p) = enough i (shows p) u.1 in (
       x.0,

@@ -11,7 +11,7 @@ use Rattle.piles.specs.Piles.{Pile, Pile.bottom, Pile.check, Pile.quota, Pile.mi
 use Rattle.piles.proofs.Devices.{check_accepts, quota_accepts, first_accepts, second_accepts}
 use Rattle.pile_law.specs.TwoPiles.{through, Kin, KinPile, SameCall, SameChoices, cut_bottoms}
 use Rattle.pile_law.proofs.Kept.{at_two}
-use Rattle.pile_law.proofs.Kin.{KinChoice, same_choice, kin_remains, KinCut, KinCuts, same_handed}
+use Rattle.pile_law.proofs.Kin.{KinChoice, same_choice, kin_remains, KinCut, KinCuts, same_below}
 
 -- two cuts that leave the same of each block
 pub same_cut : (m n : Meaning) (κ κ' : Cutting) → m.width ≡ n.width → blocks_of m ≡ blocks_of n → κ.left ≡ κ'.left → κ.left_mark ≡ κ'.left_mark
@@ -165,7 +165,7 @@ kin_in_write b n x y us vs d (bottom m) (bottom m₂) K K₂ h k s e = go (d [])
     go true = kin_choices m.width n b (K []) (K₂ []) h (e [])
     go false = kin_unbegun b n x y us vs (K []) (K₂ []) m m₂ h k s (e [])
 kin_in_write b n x y us vs d (check p) (check q) K K₂ h k s e =
-    kin_in_write b (suc n) x y (with_check us) (with_check vs) d p q K K₂ h k (same_handed b n (write x us) (write y vs) s) e
+    kin_in_write b (suc n) x y (with_check us) (with_check vs) d p q K K₂ h k (same_below b n (write x us) (write y vs) s) e
 kin_in_write b n x y us vs d (quota i p) (quota j q) K K₂ h k s e = kin_in_write b n x y us vs d p q K K₂ h k.1 s e
 kin_in_write b n x y us vs d (mirror p q) (mirror r t) K K₂ h k s e = (
   kin_in_write b n x y us vs (on false d) p r (on false K) (on false K₂) h k.0 s (λ i. e (false ∷ i)),

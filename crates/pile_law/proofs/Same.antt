@@ -5,13 +5,13 @@ use Rattle.device.specs.Meaning.{Meaning, Content, Cell, Lawful, Cut, raised, fl
 use Rattle.device.specs.Mapped.{mapped_cell}
 use Rattle.device.specs.Cuts.{Op, Op.write, Op.flush, Choice, Choice.persisted, Choice.current, Choice.other, Cutting, Fits, keeps_persisted, apply, remains, cut}
 use Rattle.device.proofs.Choices.{cuts_agree, cut_at, flush_at, blocks_apply}
-use Rattle.check_layer.specs.Checked.{checked, checked_cell, checked_content}
+use Rattle.check_layer.specs.Checked.{checked, checked_cell, checked_content, below_op}
 use Rattle.quota.specs.Limited as quotas
 use Rattle.quota.specs.Limited.{limited, limited_blocks, raised_content}
 use Rattle.quota.proofs.Follows.{cell_limited}
 use Rattle.mirror.specs.Mirrored.{mirrored, mirrored_blocks, mirrored_cell, pick, Alike}
 use Rattle.mirror.proofs.Follows.{cell_mirrored}
-use Rattle.piles.specs.Piles.{Pile, Pile.bottom, Pile.check, Pile.quota, Pile.mirror, shows, Built, PerBottom, on, handed, if_done, part, whole, of_sides, counts, counted, Accepts, Cuts, anew}
+use Rattle.piles.specs.Piles.{Pile, Pile.bottom, Pile.check, Pile.quota, Pile.mirror, shows, Built, PerBottom, on, if_done, part, whole, of_sides, counts, counted, Accepts, Cuts, anew}
 use Rattle.piles.proofs.Devices.{check_accepts, quota_accepts, first_accepts, second_accepts, apply_lawful, width_apply, shows_whole, built_whole}
 use Rattle.piles.proofs.Rise.{Shape, made, rest, flushes, in_write, in_flush, not_begun, all_flushed}
 use Rattle.pile_law.specs.TwoPiles.{KinBlock, KinPile, SameCall, cut_bottoms, Fitting, SameChoices, OneCut, Slots, SameRises}
@@ -255,7 +255,7 @@ fitting_bottom o true κ m l a f h i = cuts_agree.0 κ (apply o m) (apply_lawful
 
 pub fitting : (o : Op) (d : PerBottom Bool) (K : PerBottom Cutting) (p : Pile) → Built p → Accepts (shows p) o → Fitting K p → Cuts (part o d p) (cut_bottoms K (part o d p))
 fitting o d K (bottom m) u a f = fitting_bottom o (d []) (K []) m u a f.0 f.1 f.2
-fitting o d K (check p) u a f = fitting (handed o) d K p u.0 (check_accepts (shows p) u.1 o a) f
+fitting o d K (check p) u a f = fitting (below_op o) d K p u.0 (check_accepts (shows p) u.1 o a) f
 fitting o d K (quota n p) u a f = (refl, fitting o d K p u.0 (quota_accepts n (shows p) u.1 o a) f)
 fitting o d K (mirror p q) u a f = (
   fitting o (on false d) (on false K) p u.0 (first_accepts (shows p) (shows q) u.2 o a) f.0,

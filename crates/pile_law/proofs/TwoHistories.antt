@@ -16,10 +16,11 @@ use Rattle.model.proofs.Histories.{Fine, step_fine, broke_fine, idle_cut, format
 use Rattle.model.proofs.TwoRuns.{Rel, rel_next, rel_broken, rel_cut, clear_rel}
 use Rattle.model.proofs.Right.{histories}
 use Rattle.model.proofs.Grants.{sizes_parts}
-use Rattle.piles.specs.Piles.{Pile, Pile.bottom, Pile.check, Pile.quota, Pile.mirror, shows, Built, PerBottom, on, handed, if_done, part, whole, counts, counted, Accepts, anew}
+use Rattle.check_layer.specs.Checked.{below_op}
+use Rattle.piles.specs.Piles.{Pile, Pile.bottom, Pile.check, Pile.quota, Pile.mirror, shows, Built, PerBottom, on, if_done, part, whole, counts, counted, Accepts, anew, calls}
 use Rattle.piles.proofs.Devices.{none, part_none, shows_whole, built_whole, width_apply}
 use Rattle.piles.proofs.Rise.{blocks_done, counted_none, cuts_rise}
-use Rattle.pile_law.specs.Histories.{calls, moment}
+use Rattle.pile_law.specs.Histories.{moment}
 use Rattle.pile_law.proofs.Accepted.{AcceptsAll, Spare, step_accepted}
 use Rattle.pile_law.specs.TwoPiles.{KinPile, SameCall, Slots, cut_bottoms, Fitting, TwinChoices, OneCut}
 use Rattle.pile_law.specs.TwoHistories.{TwinBelow, TwinBelow.called, TwinBelow.failed, TwinBelow.cut, RunTwins, AllSeenTwins, TwoPilesAgree}
@@ -38,7 +39,7 @@ kin_refl b n (mirror p q) = (kin_refl b n p, kin_refl b n q)
 -- choices fit after a call too
 fitting_whole : (o : Op) (K : PerBottom Cutting) (p : Pile) → Fitting K p → Fitting K (whole o p)
 fitting_whole o K (bottom m) f = ((λ b. subst (λ w. Fits w ((K []).choice b)) (sym (width_apply o m)) (f.0 b)), f.1, f.2)
-fitting_whole o K (check p) f = fitting_whole (handed o) K p f
+fitting_whole o K (check p) f = fitting_whole (below_op o) K p f
 fitting_whole o K (quota n p) f = fitting_whole o K p f
 fitting_whole o K (mirror p q) f = (fitting_whole o (on false K) p f.0, fitting_whole o (on true K) q f.1)
 
@@ -187,7 +188,7 @@ sizes_two m f = let p = sizes_parts (blocks_of m) m.width f.0 in omega (arith, p
 
 pub two_piles_agree : (V : Type 0) → TwoPilesAgree V
 unfolding SameMode
-two_piles_agree V join p ts u f r =
+two_piles_agree V p u join ts f r =
     let x : Pair p p = record { first = u; second = u; blocks = sizes_two (shows p) f; slots = λ b h. kin_refl b 0 p } in
     let g = formatted_fine V join (shows p) f in
     let M : Model = model_of bare (shows p) in

@@ -5,14 +5,9 @@ use Rattle.device.specs.Cuts.{Op, replay}
 use Rattle.model.specs.Plain.{Map, Call, Answer, start}
 use Rattle.model.specs.World.{Mode, Mode.mounted, Mode.down, Event, Event.did, Event.broke, Event.lost, Step, Run, Formatted, bare}
 use Rattle.model.specs.Right.{Right}
-use Rattle.piles.specs.Piles.{Pile, shows, Built, PerBottom, part, whole, Cuts, anew}
+use Rattle.piles.specs.Piles.{Pile, shows, Built, PerBottom, part, whole, calls, Cuts, anew}
 
--- some calls, one after another
-abbrev pub calls : List Op → Pile → Pile
-calls [] p = p
-calls (o ∷ os) p = calls os (whole o p)
-
--- when i of them are done, and these bottoms have done their part of the next
+-- some calls when i of them are done, and these bottoms have done their part of the next
 abbrev pub moment : List Op → ℕ → PerBottom Bool → Pile → Pile
 moment [] i d p = p
 moment (o ∷ os) zero d p = part o d p
@@ -48,8 +43,18 @@ AllSeen [] [] = Unit
 AllSeen (e ∷ es) (f ∷ fs) = Seen e f × AllSeen es fs
 AllSeen es fs = ⊥
 
--- every history on a formatted pile is one of the device that the pile shows, so the law of histories holds of it
+-- every history on a formatted pile that shows m is one of the device m, so the law of histories holds of it
+abbrev pub LawOn : (V : Type 0) → Pile → Meaning → Type 0
+LawOn V p m =
+    (join : ℕ → Map → V) (es : List (Below V)) → Formatted m → RunBelow V join (mounted bare) p es
+    → (fs : List (Event V)) × AllSeen es fs × Run V join (mounted bare) m fs × Right V join start (mounted bare) m fs
+
 abbrev pub PilesKeepTheLaw : (V : Type 0) → Type 0
-PilesKeepTheLaw V =
-    (join : ℕ → Map → V) (p : Pile) (es : List (Below V)) → Built p → Formatted (shows p) → RunBelow V join (mounted bare) p es
-    → (fs : List (Event V)) × AllSeen es fs × Run V join (mounted bare) (shows p) fs × Right V join start (mounted bare) (shows p) fs
+PilesKeepTheLaw V = (p : Pile) → Built p → LawOn V p (shows p)
+
+-- A call that is a step, and whose device calls led a device to a state, is an event of the history of the pile that the device is.
+abbrev pub CallsAreEvents : {D : Type 0} (V : Type 0) → (List Op → D → D → Type 0) → (D → Pile) → (D → Meaning) → Type 0
+CallsAreEvents {D} V led pile meaning =
+    (join : ℕ → Map → V) (x y : D) (w w' : Mode) (c : Call) (a : Answer V) (os : List Op) (es : List (Below V))
+    → led os x y → Step V join w (meaning x) c a os w' (meaning y)
+    → RunBelow V join w' (pile y) es → RunBelow V join w (pile x) (called c a os w' ∷ es)

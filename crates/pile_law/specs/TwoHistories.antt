@@ -5,8 +5,8 @@ use Rattle.device.specs.Cuts.{Op, Cutting, replay}
 use Rattle.model.specs.Plain.{Map, Answer, Call}
 use Rattle.model.specs.World.{Mode, Mode.mounted, Mode.down, Step, Formatted, bare}
 use Rattle.model.specs.TwoRuns.{Both, Twin, Twin.did, Twin.broke, Twin.lost, one, two, Legal, Agree, clear}
-use Rattle.piles.specs.Piles.{Pile, shows, Built, PerBottom, anew}
-use Rattle.pile_law.specs.Histories.{calls, moment}
+use Rattle.piles.specs.Piles.{Pile, shows, Built, PerBottom, calls, anew}
+use Rattle.pile_law.specs.Histories.{moment}
 use Rattle.pile_law.specs.TwoPiles.{cut_bottoms, TwinChoices}
 
 -- an event of both runs on piles of the same layers: the same moment, and choices at the bottoms for each
@@ -48,9 +48,11 @@ AllSeenTwins [] [] = Unit
 AllSeenTwins (e ∷ es) (f ∷ fs) = SeenTwin e f × AllSeenTwins es fs
 AllSeenTwins es fs = ⊥
 
--- two histories on one pile: they agree in all but what touched clones show
+-- two histories on one formatted pile that shows m: they agree in all but what touched clones show
+abbrev pub AgreeOn : (V : Type 0) → Pile → Meaning → Type 0
+AgreeOn V p m =
+    (join : ℕ → Map → V) (ts : List (TwinBelow V)) → Formatted m → RunTwins V join (mounted bare) p (mounted bare) p ts
+    → (us : List (Twin V)) × AllSeenTwins ts us × Agree V clear m m us
+
 abbrev pub TwoPilesAgree : (V : Type 0) → Type 0
-TwoPilesAgree V =
-    (join : ℕ → Map → V) (p : Pile) (ts : List (TwinBelow V))
-    → Built p → Formatted (shows p) → RunTwins V join (mounted bare) p (mounted bare) p ts
-    → (us : List (Twin V)) × AllSeenTwins ts us × Agree V clear (shows p) (shows p) us
+TwoPilesAgree V = (p : Pile) → Built p → AgreeOn V p (shows p)

@@ -11,7 +11,7 @@ use Rattle.device.specs.Showing.{count_shown}
 use Rattle.device.specs.Cuts.{Op, Op.write, Op.flush, apply}
 use Rattle.device.proofs.Choices.{blocks_apply}
 use Rattle.check_layer.specs.Checked as checks
-use Rattle.check_layer.specs.Checked.{checked, checked_cell, check_of, with_check}
+use Rattle.check_layer.specs.Checked.{checked, checked_cell, check_of, with_check, below_op}
 use Rattle.check_layer.proofs.Follows.{checked_flushed, checked_after}
 use Rattle.quota.specs.Limited as quotas
 use Rattle.quota.specs.Limited.{limited, limited_blocks}
@@ -19,7 +19,7 @@ use Rattle.quota.proofs.Follows.{limited_flushed, limited_after}
 use Rattle.mirror.specs.Mirrored as mirrors
 use Rattle.mirror.specs.Mirrored.{mirrored, mirrored_blocks, Alike}
 use Rattle.mirror.proofs.Follows.{mirrored_flushed, mirrored_written, alike_flushed, alike_written}
-use Rattle.piles.specs.Piles.{Pile, Pile.bottom, Pile.check, Pile.quota, Pile.mirror, shows, Built, PerBottom, handed, part, whole, Accepts, PilesAreDevices}
+use Rattle.piles.specs.Piles.{Pile, Pile.bottom, Pile.check, Pile.quota, Pile.mirror, shows, Built, PerBottom, part, whole, Accepts, PilesAreDevices}
 
 pub lawful : (p : Pile) → Built p → Lawful (shows p)
 lawful (bottom m) b = b
@@ -33,7 +33,7 @@ none s = false
 
 pub part_none : (o : Op) (p : Pile) → part o none p ≡ p
 part_none o (bottom m) = refl
-part_none o (check p) = ap check (part_none (handed o) p)
+part_none o (check p) = ap check (part_none (below_op o) p)
 part_none o (quota n p) = ap (quota n) (part_none o p)
 part_none o (mirror p q) = ap₂ mirror (part_none o p) (part_none o q)
 
@@ -52,11 +52,11 @@ checked_words w ws h k = (
 
 -- what is accepted above is accepted below
 module _ (m : Meaning) (wide : checks.Allowed (shown_of m)) where
-  pub check_accepts : (o : Op) → Accepts (checked m) o → Accepts m (handed o)
+  pub check_accepts : (o : Op) → Accepts (checked m) o → Accepts m (below_op o)
   check_accepts (write b ws) a = (omega (arith, a.0, length-map m.cells (checked_cell (m.width - 1))), checked_words m.width ws wide a.1, a.2)
   check_accepts flush a = tt
 
-  pub check_apply : (o : Op) → Accepts (checked m) o → checked (apply (handed o) m) ≡ apply o (checked m)
+  pub check_apply : (o : Op) → Accepts (checked m) o → checked (apply (below_op o) m) ≡ apply o (checked m)
   check_apply (write b ws) a = checked_after m b ws (omega (arith, a.0, length-map m.cells (checked_cell (m.width - 1)))) a.1.0 (Ok tt)
   check_apply flush a = checked_flushed m
 
@@ -94,7 +94,7 @@ module _ (m n : Meaning) (k : Alike m n) where
 -- once all bottoms have done their part
 pub shows_whole : (o : Op) (p : Pile) → Built p → Accepts (shows p) o → shows (whole o p) ≡ apply o (shows p)
 shows_whole o (bottom m) b a = refl
-shows_whole o (check p) b a = ap checked (shows_whole (handed o) p b.0 (check_accepts (shows p) b.1 o a)) ∙ check_apply (shows p) b.1 o a
+shows_whole o (check p) b a = ap checked (shows_whole (below_op o) p b.0 (check_accepts (shows p) b.1 o a)) ∙ check_apply (shows p) b.1 o a
 shows_whole o (quota n p) b a = ap (limited n) (shows_whole o p b.0 (quota_accepts n (shows p) b.1 o a)) ∙ quota_apply n (shows p) b.1 o a
 shows_whole o (mirror p q) b a =
     ap₂ mirrored (shows_whole o p b.0 (first_accepts (shows p) (shows q) b.2 o a)) (shows_whole o q b.1 (second_accepts (shows p) (shows q) b.2 o a))
@@ -131,14 +131,14 @@ pub built_whole : (o : Op) (p : Pile) → Built p → Accepts (shows p) o → Bu
 built_whole o (bottom m) b a = apply_lawful o m a b
 built_whole o (check p) b a =
     let a' = check_accepts (shows p) b.1 o a in (
-      built_whole (handed o) p b.0 a',
-      subst (λ m. checks.Allowed (shown_of m)) (sym (shows_whole (handed o) p b.0 a')) (omega (arith, b.1, width_apply (handed o) (shows p))),
+      built_whole (below_op o) p b.0 a',
+      subst (λ m. checks.Allowed (shown_of m)) (sym (shows_whole (below_op o) p b.0 a')) (omega (arith, b.1, width_apply (below_op o) (shows p))),
     )
 built_whole o (quota n p) b a =
     let a' = quota_accepts n (shows p) b.1 o a in (
       built_whole o p b.0 a',
       subst (λ m. quotas.Allowed n (shown_of m)) (sym (shows_whole o p b.0 a'))
-      (b.1.0, omega (arith, quotas.enough n (shows p) b.1, blocks_apply o (shows p), count_shown (apply o (shows p)))),
+          (b.1.0, omega (arith, quotas.enough n (shows p) b.1, blocks_apply o (shows p), count_shown (apply o (shows p)))),
     )
 built_whole o (mirror p q) b a =
     let a₁ = first_accepts (shows p) (shows q) b.2 o a in

@@ -2,7 +2,7 @@
 use Rattle.std.specs.Prelude.{◌≡◌, ℕ, ◌<◌, ◌≤◌, Bool, true, false, cond, ◌&&◌, ◌||◌, ◌⊎◌, List, ◌∷◌, []}
 use Rattle.device.specs.Meaning.{Meaning, Lawful, Words, Cut, blocks_of, shown_of, flushed}
 use Rattle.device.specs.Cuts.{Op, Op.write, Op.flush, apply}
-use Rattle.check_layer.specs.Checked.{checked, with_check, Allowed as Wide}
+use Rattle.check_layer.specs.Checked.{checked, below_op, Allowed as Wide}
 use Rattle.quota.specs.Limited.{limited, Allowed as Within}
 use Rattle.mirror.specs.Mirrored.{mirrored, Alike}
 
@@ -36,11 +36,6 @@ PerBottom X = List Bool → X
 abbrev pub on : {X : Type 0} → Bool → PerBottom X → PerBottom X
 on side f s = f (side ∷ s)
 
--- the call that a check hands down
-abbrev pub handed : Op → Op
-handed (write b ws) = write b (with_check ws)
-handed flush = flush
-
 -- the call, where it is done
 abbrev pub if_done : Bool → Op → Meaning → Meaning
 if_done d o m = cond d (apply o m) m
@@ -48,13 +43,18 @@ if_done d o m = cond d (apply o m) m
 -- A moment of a call: these bottoms have done their part of it and the others have not, whatever the order is in which it reaches them.
 abbrev pub part : Op → PerBottom Bool → Pile → Pile
 part o d (bottom m) = bottom (if_done (d []) o m)
-part o d (check p) = check (part (handed o) d p)
+part o d (check p) = check (part (below_op o) d p)
 part o d (quota n p) = quota n (part o d p)
 part o d (mirror p q) = mirror (part o (on false d) p) (part o (on true d) q)
 
 -- all have
 abbrev pub whole : Op → Pile → Pile
 whole o p = part o (λ s. true) p
+
+-- some calls, one after another
+abbrev pub calls : List Op → Pile → Pile
+calls [] p = p
+calls (o ∷ os) p = calls os (whole o p)
 
 -- a device of this meaning does not refuse the call
 abbrev pub Accepts : Meaning → Op → Type 0

@@ -7,11 +7,13 @@ use Rattle.medium.specs.Built.{Buildable, built}
 use Rattle.medium.specs.Held.{opened}
 use Rattle.medium.specs.Sides.{LogShaped, LogFormed, Refused, log_shown, shown}
 use Rattle.medium.specs.declared.Fault.{Fault}
-use Rattle.medium.proofs.Moved.{moved, failed}
+use Rattle.medium.proofs.Moved.{moved, failed, shown_so}
+use Rattle.medium.specs.Outlasts.{Outlasts}
+use Rattle.medium.proofs.Outlasts.{sides_outlast}
 use Rattle.medium.proofs.Sides.open.Goals as goal
 
-pub returns-in_err-memory : goal.returns-in_err-memory
-returns-in_err-memory c =
+pub returns-in_err-memory-clause-opened : goal.returns-in_err-memory-clause-opened
+returns-in_err-memory-clause-opened c =
     let s = c.args.self.now in
     let image : c.deref_mut.result.now ≡ s.image.items = c.deref_mut.ensures.value in
     let shaped : LogShaped s = subst (λ (img : List ℕ). Shaped (length img) s.blocks s.words.width) image c.in_ok-log.ensures.opened.0 in
@@ -21,8 +23,8 @@ returns-in_err-memory c =
     failed _ (λ fault. Refused fault s) c.from_residual-in_err-memory.result c.in_err-memory.field-0.0 (y.1 ∙ ap Err y.2)
     (subst (λ fault. Refused fault s) (sym h.0) (inr (shaped, formed, λ k b. h.1 k)))
 
-pub returns : goal.returns
-returns c =
+pub returns-clause-opened : goal.returns-clause-opened
+returns-clause-opened c =
     let s = c.args.self.now in
     let log = c.in_ok-log.log in
     let slices = c.in_ok-memory.memory.slices in
@@ -36,3 +38,13 @@ returns c =
     moved _ (λ fault. (fault ≡ Fault.Shape) × (Buildable m n → ⊥)) (λ fault. Refused fault s) (built m n) (shown s) (ap₂ built p q)
     (λ e h. subst (λ fault. Refused fault s) (sym h.0) (inr (shaped, formed, λ _ b. h.1 (subst₂ Buildable (sym p) (sym q) b))))
     c.checked_mirror.result c.checked_mirror.ensures
+
+pub returns-clause-cut : goal.returns-clause-cut
+returns-clause-cut c =
+    let s = c.args.self.now in
+    let log = c.in_ok-log.log in
+    let image : c.deref_mut.result.now ≡ s.image.items = c.deref_mut.ensures.value in
+    let p : memory (parts_of c.in_ok-memory.memory.slices c.in_ok-memory.memory.width) ≡ opened s.words = c.in_ok-memory.ensures in
+    let q : log_of log.image.now log.layout.blocks log.layout.width log.count ≡ log_shown s
+    = c.in_ok-log.ensures.opened.2 ∙ ap (λ (img : List ℕ). opened_log img s.blocks s.words.width) image in
+    shown_so _ (Outlasts s) _ _ (subst (Outlasts s) (sym (ap₂ built p q)) (sides_outlast s)) c.checked_mirror.result c.checked_mirror.ensures
