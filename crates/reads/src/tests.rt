@@ -73,10 +73,7 @@ fn two_leaves(rt: HostRuntime) -> Result<(), Fail> {
         Ok(memory) => memory,
         Err(_) => return Err(Fail::new("the slices have the shape")),
     };
-    let counts = Counts {
-        of: vec![in rt.alloc(); 0u16; 16]?,
-    };
-    let mut store = Store::new(memory, counts);
+    let mut store = Store::new(memory, Counts::none(16));
     plant(&mut store);
     let root = Root {
         height: 2,
