@@ -1,7 +1,8 @@
 // A device whose tree blocks are counted by their references.
 ghost use Rattle.std.specs.Prelude.{◌≡◌, ℕ, ◌+◌, ◌-◌, ◌<◌, ◌≤◌, ◌==◌, true, [], ◌∷◌, length, is_some, Some, slice_index};
-ghost use Rattle.device.specs.Meaning.{blocks_of, reading, written, flushed};
-ghost use Rattle.page.specs.Block.{block_at};
+ghost use Rattle.device.specs.Meaning.{blocks_of, reading, shown_of, written, flushed};
+ghost use Rattle.device.specs.Cuts.{Op.write, Op.flush};
+ghost use Rattle.page.specs.Block.{block_at, encode};
 ghost use Rattle.page.specs.Io.{Wide, ReadAs};
 ghost use Rattle.page.specs.View.{view};
 ghost use Rattle.counts.specs.Grants.{lowest_free};
@@ -9,7 +10,7 @@ ghost use Rattle.counts.specs.Keeping.{retained};
 ghost use Rattle.counts.specs.Moves.{opening, linking, step, Shaped, Owned, Held, Dropped};
 
 use super::{Counts, Grant};
-use device::{Device, DeviceFault, LayerMark};
+use device::{Device, DeviceFault, LayerMark, Reader};
 use page::glance::PageWords;
 use page::io::{read_block, write_block};
 use page::page::Page;
@@ -25,17 +26,17 @@ pub struct Store<D: Device> {
     hint: usize,
 }
 
-// What the device means, and the counts.
+// What the device means, and the counts; and the device itself, so that its calls can be spoken of.
 impl<D: Device> Model for Store<D> {
     ghost use Rattle.std.specs.Prelude.{◌≡◌, length};
     ghost use Rattle.counts.specs.Moves.{State};
 
-    ghost Value = { State };
+    ghost Value = { State × D };
 
     ghost use Rattle.device.specs.Meaning.{blocks_of};
     ghost use Rattle.page.specs.Io.{Wide};
 
-    ghost view = { λ s. (D.Device.meaning s.device, s.counts.of.items) };
+    ghost view = { λ s. ((D.Device.meaning s.device, s.counts.of.items), s.device) };
 
     ghost use Rattle.counts.specs.Hint.{Taken};
 
@@ -47,7 +48,7 @@ impl<D: Device> Store<D> {
     pub fn new(device: D, counts: Counts) -> Store<D>
         requires wide { Wide (D.Device.meaning device) }
         requires sized { length counts.of.items ≡ blocks_of (D.Device.meaning device) }
-        ensures { result ≡ (D.Device.meaning device, counts.of.items) }
+        ensures { result ≡ ((D.Device.meaning device, counts.of.items), device) }
     {
         Store {
             device,
@@ -58,7 +59,7 @@ impl<D: Device> Store<D> {
 
     // The device and the counts.
     pub fn into_parts(self) -> (D, Counts)
-        ensures { (D.Device.meaning result.0, result.1.of.items) ≡ self }
+        ensures { ((D.Device.meaning result.0, result.1.of.items), result.0) ≡ self }
     {
         let Store {
             device,
@@ -70,15 +71,15 @@ impl<D: Device> Store<D> {
 
     // The number of blocks, and what every store keeps.
     pub fn blocks(&self) -> u32
-        ensures blocks { result ≡ blocks_of self.now.0 }
-        ensures shape { Shaped self.now }
+        ensures blocks { result ≡ blocks_of self.now.0.0 }
+        ensures shape { Shaped self.now.0 }
     {
         self.device.blocks()
     }
 
     // How many writes are left, and which layer sets that limit.
     pub fn left(&self) -> (u32, LayerMark)
-        ensures { result ≡ (self.now.0.left, self.now.0.left_mark) }
+        ensures { result ≡ (self.now.0.0.left, self.now.0.0.left_mark) }
     {
         self.device.left()
     }
@@ -86,62 +87,68 @@ impl<D: Device> Store<D> {
     // The n lowest free blocks, if there are so many.
     pub fn grant(&self, n: usize) -> Option<Grant>
         requires { n ≤ 11 }
-        ensures these { result ≡ lowest_free n self.now.1 }
-        ensures shape { Shaped self.now }
+        ensures these { result ≡ lowest_free n self.now.0.1 }
+        ensures shape { Shaped self.now.0 }
     {
         Grant::lowest(&self.counts, self.hint, n)
     }
 
     // What a block holds, if it holds a value.
     pub fn read<T: Stored>(&mut self, block: u32) -> Result<Option<T>, DeviceFault>
-        ensures kept { self.new ≡ self.old }
-        ensures answer { ReadAs T.Stored.holds (reading D.Device.code self.old.0 block self.old.0.width) result }
+        ensures kept { self.new.0 ≡ self.old.0 }
+        ensures calls { D.Device.led [] self.old.1 self.new.1 }
+        ensures answer { ReadAs T.Stored.holds (reading D.Reader.code (shown_of self.old.0.0) block self.old.0.0.width) result }
     {
         read_block(&mut self.device, block)
     }
 
     // Writes a value to a block, on a device that has a write left.
     pub fn write<T: Stored>(&mut self, block: u32, value: &T)
-        requires on { block < blocks_of self.old.0 }
-        requires left { 1 ≤ self.old.0.left }
+        requires on { block < blocks_of self.old.0.0 }
+        requires left { 1 ≤ self.old.0.0.left }
         requires storable { T.Stored.storable value.now }
-        ensures { self.new ≡ (written self.old.0 block (T.Stored.words_of self.old.0.width value.now), self.old.1) }
+        ensures state { self.new.0 ≡ (written self.old.0.0 block (T.Stored.words_of self.old.0.0.width value.now), self.old.0.1) }
+        ensures calls { D.Device.led (write block (T.Stored.words_of self.old.0.0.width value.now) ∷ []) self.old.1 self.new.1 }
     {
         write_block(&mut self.device, block, value).unwrap();
     }
 
     // Makes every current content the persisted one.
     pub fn flush(&mut self)
-        ensures { self.new ≡ (flushed self.old.0, self.old.1) }
+        ensures state { self.new.0 ≡ (flushed self.old.0.0, self.old.0.1) }
+        ensures calls { D.Device.led (flush ∷ []) self.old.1 self.new.1 }
     {
         self.device.flush();
     }
 
     // One reference more to a block; whether it is the first.
     pub fn retain(&mut self, block: u32) -> bool
-        requires within { block < blocks_of self.old.0 }
-        requires room { slice_index self.old.1 block < 65535 }
-        ensures first { result ≡ (slice_index self.old.1 block == 0) }
-        ensures kept { self.new.0 ≡ self.old.0 }
-        ensures counts { self.new.1 ≡ retained block self.old.1 }
+        requires within { block < blocks_of self.old.0.0 }
+        requires room { slice_index self.old.0.1 block < 65535 }
+        ensures first { result ≡ (slice_index self.old.0.1 block == 0) }
+        ensures kept { self.new.0.0 ≡ self.old.0.0 }
+        ensures device { self.new.1 ≡ self.old.1 }
+        ensures counts { self.new.0.1 ≡ retained block self.old.0.1 }
     {
         self.counts.retain(block)
     }
 
     // Reads the page of a block that holds one, over what was read before.
     pub fn load(&mut self, block: u32, page: &mut PageWords)
-        requires { is_some (block_at self.old.0 block) ≡ true }
-        ensures kept { self.new ≡ self.old }
-        ensures page { block_at self.old.0 block ≡ Some page.new }
+        requires { is_some (block_at self.old.0.0 block) ≡ true }
+        ensures kept { self.new.0 ≡ self.old.0 }
+        ensures calls { D.Device.led [] self.old.1 self.new.1 }
+        ensures page { block_at self.old.0.0 block ≡ Some page.new }
     {
         page.load(&mut self.device, block);
     }
 
     // The page of a block that holds one.
     pub fn read_page(&mut self, block: u32) -> Page
-        requires { is_some (block_at self.old.0 block) ≡ true }
-        ensures kept { self.new ≡ self.old }
-        ensures page { block_at self.old.0 block ≡ Some (view result) }
+        requires { is_some (block_at self.old.0.0 block) ≡ true }
+        ensures kept { self.new.0 ≡ self.old.0 }
+        ensures calls { D.Device.led [] self.old.1 self.new.1 }
+        ensures page { block_at self.old.0.0 block ≡ Some (view result) }
     {
         let mut words = PageWords::empty();
         self.load(block, &mut words);
@@ -150,10 +157,11 @@ impl<D: Device> Store<D> {
 
     // Gives up a reference to a block for references to its children.
     pub fn open(&mut self, block: u32) -> Page
-        requires { Owned self.old block }
-        ensures page { block_at self.old.0 block ≡ Some (view result) }
-        ensures state { self.new ≡ step (opening block) self.old }
-        ensures shape { Shaped self.old }
+        requires { Owned self.old.0 block }
+        ensures page { block_at self.old.0.0 block ≡ Some (view result) }
+        ensures state { self.new.0 ≡ step (opening block) self.old.0 }
+        ensures calls { D.Device.led [] self.old.1 self.new.1 }
+        ensures shape { Shaped self.old.0 }
     {
         let page = self.read_page(block);
         self.open_page(block, &page);
@@ -162,10 +170,11 @@ impl<D: Device> Store<D> {
 
     // The same, where the page of the block was read before.
     pub fn open_page(&mut self, block: u32, page: &Page)
-        requires owned { Owned self.old block }
-        requires holds { block_at self.old.0 block ≡ Some (view page.now) }
-        ensures state { self.new ≡ step (opening block) self.old }
-        ensures shape { Shaped self.old }
+        requires owned { Owned self.old.0 block }
+        requires holds { block_at self.old.0.0 block ≡ Some (view page.now) }
+        ensures state { self.new.0 ≡ step (opening block) self.old.0 }
+        ensures device { self.new.1 ≡ self.old.1 }
+        ensures shape { Shaped self.old.0 }
     {
         self.counts.open(block, page);
         self.hint = self.counts.freed(self.hint, block);
@@ -173,11 +182,12 @@ impl<D: Device> Store<D> {
 
     // Writes a page to a block that nothing refers to; the references to its children go over into it, and one to it is held.
     pub fn link(&mut self, block: u32, page: &Page)
-        requires on { block < blocks_of self.old.0 }
-        requires free { slice_index self.old.1 block ≡ 0 }
-        requires left { 1 ≤ self.old.0.left }
+        requires on { block < blocks_of self.old.0.0 }
+        requires free { slice_index self.old.0.1 block ≡ 0 }
+        requires left { 1 ≤ self.old.0.0.left }
         requires low { page.now.level < 5 }
-        ensures { self.new ≡ step (linking block (view page.now)) self.old }
+        ensures state { self.new.0 ≡ step (linking block (view page.now)) self.old.0 }
+        ensures calls { D.Device.led (write block (encode self.old.0.0.width (view page.now)) ∷ []) self.old.1 self.new.1 }
     {
         self.write(block, page);
         self.counts.set(block, 1);
@@ -186,10 +196,11 @@ impl<D: Device> Store<D> {
 
     // Gives up a reference to a block; where it was the last, those to its children too.
     pub fn release(&mut self, block: u32, level: u32)
-        requires { Held self.old block level }
-        ensures kept { self.new.0 ≡ self.old.0 }
-        ensures dropped { Dropped (block ∷ []) self.old self.new.1 }
-        ensures sized { length self.new.1 ≡ length self.old.1 }
+        requires { Held self.old.0 block level }
+        ensures kept { self.new.0.0 ≡ self.old.0.0 }
+        ensures calls { D.Device.led [] self.old.1 self.new.1 }
+        ensures dropped { Dropped (block ∷ []) self.old.0 self.new.0.1 }
+        ensures sized { length self.new.0.1 ≡ length self.old.0.1 }
     {
         let count = self.counts.get(block);
         self.counts.set(block, count - 1);
