@@ -5,7 +5,8 @@ use Rattle.std.specs.Option.{MatchOption, ok_or, option_map, option_or}
 use Rattle.std.specs.Result.{MatchResult}
 use Rattle.device.specs.declared.Layer.{Layer}
 use Rattle.device.specs.declared.DeviceFault.{DeviceFault}
-use Rattle.device.specs.Meaning.{Meaning, Content, words, damaged, blocks_of, current_at, held, reading}
+use Rattle.device.specs.Meaning.{Meaning, Content, words, damaged, blocks_of, current_at, shown_of, held, reading}
+use Rattle.device.specs.Showing.{count_shown, content_shown}
 use Rattle.device.proofs.Calls.{reading_at}
 use Rattle.page.specs.Block.{Block, decode, block_in, block_at}
 use Rattle.page.specs.Io.{ReadAs}
@@ -64,8 +65,10 @@ held_ok : (k : Content) (ws : List ℕ) → held k ≡ Ok ws → k ≡ words ws
 held_ok (words vs) ws h = let e : vs ≡ ws = cc in ap words e
 held_ok (damaged k) ws h = absurd (let z : ◌≡◌ {A = ℕ} 0 1 = cc in omega arith)
 
-pub read_words : (c : Layer) (m : Meaning) (b : ℕ) (ws : List ℕ) → b < blocks_of m → reading c m b m.width ≡ Ok ws → current_at m b ≡ words ws
-read_words c m b ws lt h = held_ok (current_at m b) ws (sym (reading_at c m b m.width refl lt) ∙ h)
+pub read_words : (c : Layer) (m : Meaning) (b : ℕ) (ws : List ℕ) → b < blocks_of m → reading c (shown_of m) b m.width ≡ Ok ws → current_at m b ≡ words ws
+read_words c m b ws lt h =
+    held_ok (current_at m b) ws
+    (sym (reading_at c (shown_of m) b m.width refl (omega (arith, lt, count_shown m)) ∙ ap (λ (f : ℕ → Content). held (f b)) (content_shown m)) ∙ h)
 
 -- an answer that was good stays so when its refusal is put in other words
 pub ok_of : {T E : Type 0} (F : Type 0) (r : Result T E) (x : T) → MatchResult r (λ y. ◌≡◌ {A = Result T F} (Ok x) (Ok y)) (λ e. ⊥) → r ≡ Ok x
@@ -90,17 +93,17 @@ module _ (c : Layer) (m : Meaning) (d : Due) (lt : d.block < blocks_of m) where
   by_test p ws true e s k = record { fine = own_of ws (Some (view p)) e s ∙ ap (λ x. if_made d.block x None) (sym k); here = ap block_in e ∙ sym s }
   by_test p ws false e s k = sym (ap (passes d.clone) (own_of ws (Some (view p)) e s ∙ ap (λ x. if_made d.block x None) (sym k)))
 
-  loaded_as : (o q : Option Page) (r : Result Page Refusal) → ReadAs (λ ws p. option_map view p ≡ decode ws) (reading c m d.block m.width) (Ok o)
+  loaded_as : (o q : Option Page) (r : Result Page Refusal) → ReadAs (λ ws p. option_map view p ≡ decode ws) (reading c (shown_of m) d.block m.width) (Ok o)
       → MatchOption o (q ≡ None) (λ p. (t : Bool) × (t ≡ made p) × (q ≡ then_some t p)) → r ≡ ok_or q (Malformed d.block d.clone) → Outcome r
   loaded_as None q r a f e =
       subst Outcome (sym (e ∙ ap (λ (q : Option Page). ok_or q (Malformed d.block d.clone)) f)) (sym (ap (passes d.clone) (own_of a.0 None (read_words c m d.block a.0 lt a.1) a.2)))
   loaded_as (Some p) q r a f e =
       subst Outcome (sym (e ∙ ap (λ (q : Option Page). ok_or q (Malformed d.block d.clone)) f.2)) (by_test p a.0 f.0 (read_words c m d.block a.0 lt a.1) a.2 f.1)
 
-  pub loaded : (F : Type 0) (G : Page → Bool → Type 0) (a : Result (Option Page) DeviceFault) (o q : Option Page) (r : Result Page Refusal) → ReadAs (λ ws p. option_map view p ≡ decode ws) (reading c m d.block m.width) a
+  pub loaded : (F : Type 0) (G : Page → Bool → Type 0) (a : Result (Option Page) DeviceFault) (o q : Option Page) (r : Result Page Refusal) → ReadAs (λ ws p. option_map view p ≡ decode ws) (reading c (shown_of m) d.block m.width) a
       → MatchResult a (λ x. ◌≡◌ {A = Result (Option Page) F} (Ok o) (Ok x)) (λ e. ⊥) → MatchOption o (q ≡ None) (λ p. (t : Bool) × G p t × (q ≡ then_some t p)) → ((p : Page) (t : Bool) → G p t → t ≡ made p)
       → r ≡ ok_or q (Malformed d.block d.clone) → Outcome r
-  loaded F G a o q r h s f by = loaded_as o q r (subst (ReadAs (λ ws p. option_map view p ≡ decode ws) (reading c m d.block m.width)) (ok_of F a o s) h) (tested o f)
+  loaded F G a o q r h s f by = loaded_as o q r (subst (ReadAs (λ ws p. option_map view p ≡ decode ws) (reading c (shown_of m) d.block m.width)) (ok_of F a o s) h) (tested o f)
     where
       tested : (o : Option Page) → MatchOption o (q ≡ None) (λ p. (t : Bool) × G p t × (q ≡ then_some t p)) → MatchOption o (q ≡ None) (λ p. (t : Bool) × (t ≡ made p) × (q ≡ then_some t p))
       tested None f = f

@@ -8,7 +8,7 @@ use Rattle.std.specs.Option.{MatchOption, ok_or, option_map}
 use Rattle.std.specs.Result.{result_ok}
 use Rattle.device.specs.declared.DeviceFault.{DeviceFault}
 use Rattle.device.specs.declared.Layer.{Layer}
-use Rattle.device.specs.Meaning.{Meaning, Cell, Content, Held, Lawful, LawfulCell, words, damaged, blocks_of, current_at, no_cell, reading}
+use Rattle.device.specs.Meaning.{Meaning, Cell, Content, Held, Lawful, LawfulCell, words, damaged, blocks_of, current_at, no_cell, shown_of, reading}
 use Rattle.page.specs.Block.{same}
 use Rattle.page.specs.Io.{ReadAs}
 use Rattle.page.specs.Slot.{Table, every, rooted, clone_read, slot_words, slot_loose, decode_slot, slot_stands, if_stands, slot_read, SlotFits}
@@ -43,10 +43,10 @@ ok_some (Ok y) x h = let e : x ≡ y = cc in ap Ok (sym e)
 ok_some (Err e) x h = absurd (let z : ◌≡◌ {A = ℕ} 0 1 = cc in omega arith)
 
 pub stands_read : (c : Layer) (m : Meaning) (b : ℕ) (G : Slot → Bool → Type 0) (r : Result (Option Slot) DeviceFault) (o q : Option Slot) → b < blocks_of m
-    → ReadAs (λ ws s. option_map slot_of s ≡ decode_slot ws) (reading c m b m.width) r → Some o ≡ result_ok r → MatchOption o (q ≡ None) (λ s. (t : Bool) × G s t × (q ≡ then_some t s))
+    → ReadAs (λ ws s. option_map slot_of s ≡ decode_slot ws) (reading c (shown_of m) b m.width) r → Some o ≡ result_ok r → MatchOption o (q ≡ None) (λ s. (t : Bool) × G s t × (q ≡ then_some t s))
     → ((s : Slot) (t : Bool) → G s t → t ≡ slot_stands (blocks_of m) b (slot_of s)) → option_map slot_of q ≡ slot_in (blocks_of m) b (current_at m b)
 stands_read c m b G r o q lt a h f by =
-    let k = subst (ReadAs (λ ws s. option_map slot_of s ≡ decode_slot ws) (reading c m b m.width)) (ok_some r o h) a in
+    let k = subst (ReadAs (λ ws s. option_map slot_of s ≡ decode_slot ws) (reading c (shown_of m) b m.width)) (ok_some r o h) a in
     go o f ∙ ap (if_stands (blocks_of m) b) k.2 ∙ sym (ap (slot_in (blocks_of m) b) (read_words c m b k.0 lt k.1))
   where
     tested : (s : Slot) (t : Bool) → option_map slot_of (then_some t s) ≡ cond t (Some (slot_of s)) None

@@ -1,19 +1,15 @@
 -- What format promises.
-use Rattle.std.specs.Prelude.{◌≡◌, true, cond, ◌⊎◌, Some, None, Option, nat_lt}
+use Rattle.std.specs.Prelude.{◌≡◌, cond, Some, None, Option, nat_lt}
 use Rattle.device.specs.Meaning.{Meaning, blocks_of}
 use Rattle.device.specs.Cuts.{replay}
 use Rattle.model.specs.declared.refusal.Refusal.{Refusal}
-use Rattle.model.specs.declared.refusal.Refusal.TheVariants.{Shape, Worn, NoMemory}
-use Rattle.model.specs.World.{sizes, Fits, Formatted}
+use Rattle.model.specs.declared.refusal.Refusal.TheVariants.{Shape, Worn}
+use Rattle.model.specs.World.{sizes, Formatted}
 use Rattle.model.specs.Onward.{formatting}
 
 -- why a device cannot be formatted
 abbrev pub hindrance : Meaning → Option Refusal
 hindrance m = cond (sizes (blocks_of m) m.width) (cond (nat_lt m.left 2) (Some (Worn None m.left_mark)) None) (Some Shape)
-
--- why a device is not formatted: what hinders it, or want of memory for the counts
-abbrev pub Hindered : Meaning → Refusal → Type 0
-Hindered m e = (hindrance m ≡ Some e) ⊎ ((e ≡ NoMemory) × Fits m)
 
 -- the device was formatted
 pub record Made (m m' : Meaning) : Type 0 where

@@ -1,12 +1,13 @@
 -- What mount promises.
-use Rattle.std.specs.Prelude.{◌≡◌, ℕ, suc, ◌%◌, true, false, ◌⊎◌, length, replicate, Ok, Err, Option}
+use Rattle.std.specs.Prelude.{◌≡◌, ℕ, suc, ◌%◌, false, length, replicate, Ok, Err}
 use Rattle.device.specs.Meaning.{Meaning, Lawful, words, written, blocks_of, current_at}
+use Rattle.device.specs.Cuts.{Op, Op.write}
 use Rattle.page.specs.Block.{block_at}
 use Rattle.page.specs.Slot.{Table, slot_words, SlotFits}
 use Rattle.counts.specs.Counts.{Counted}
 use Rattle.counts.specs.Moves.{State}
 use Rattle.model.specs.declared.refusal.Refusal.{Refusal}
-use Rattle.model.specs.declared.refusal.Refusal.TheVariants.{Shape, NoMemory}
+use Rattle.model.specs.declared.refusal.Refusal.TheVariants.{Shape}
 use Rattle.model.specs.TreeBlocks.{GoodOn, AllGood}
 use Rattle.model.specs.World.{sizes, Fits, found, fresh}
 use Rattle.model.specs.Reach.{rootings, Standing}
@@ -15,6 +16,10 @@ use Rattle.mount.specs.Due.{Usable}
 -- slot x written to the block of its parity
 abbrev pub with_slot : Meaning → ℕ × Table → Meaning
 with_slot m x = written m (x.0 % 2) (slot_words m.width x.0 x.1)
+
+-- the device call that writes it, at width w
+abbrev pub slot_write : ℕ → ℕ × Table → Op
+slot_write w x = write (x.0 % 2) (slot_words w x.0 x.1)
 
 -- the block of slot x's parity holds its words; its generation, heights and roots are in range
 pub record Holds (m : Meaning) (x : ℕ × Table) : Type 0 where
@@ -39,9 +44,9 @@ pub record Blank (q : State) : Type 0 where
   pub fit : Fits q.0
   pub none : q.1 ≡ replicate (blocks_of q.0) 0
 
--- no counts: the device does not fit, or there is no memory for them
-abbrev pub Countless : Meaning → Refusal → Type 0
-Countless m e = ((e ≡ Shape) × (sizes (blocks_of m) m.width ≡ false)) ⊎ ((e ≡ NoMemory) × Fits m)
+-- the one refusal of a device that a volume does not fit on
+abbrev pub Unfit : Meaning → Refusal → Type 0
+Unfit m e = (e ≡ Shape) × (sizes (blocks_of m) m.width ≡ false)
 
 -- the store of a volume that mount made, with this slot
 pub record Accepted (q : State) (x : ℕ × Table) : Type 0 where
@@ -56,7 +61,3 @@ pub record Accepted (q : State) (x : ℕ × Table) : Type 0 where
 pub record Off (m : Meaning) (e : Refusal) : Type 0 where
   pub found : found m ≡ Err e
   pub off : (x : ℕ × Table) → Kept m x → ⊥
-
--- a refusal: of what is found, or for want of memory for the counts
-abbrev pub Refused : Meaning → Refusal → Type 0
-Refused m e = Off m e ⊎ ((e ≡ NoMemory) × Fits m)
