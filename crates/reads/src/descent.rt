@@ -1,5 +1,5 @@
 // The way down to a speed.
-ghost use Rattle.std.specs.Prelude.{◌≡◌, ℕ, suc, ◌<◌, length};
+ghost use Rattle.std.specs.Prelude.{◌≡◌, ℕ, suc, ◌<◌, length, []};
 ghost use Rattle.device.specs.Meaning.{current_at};
 ghost use Rattle.page.specs.View.{entries};
 ghost use Rattle.reads.specs.Sound.{SoundAt};
@@ -36,9 +36,10 @@ fn beside(page: &Page, i: usize) -> (Option<u32>, Option<u32>)
 
 // Down to the leaf that covers a speed: one block a level.
 pub fn descend<D: Device>(store: &mut Store<D>, block: u32, speed: u32) -> Place
-    requires { SoundAt (current_at store.old.0) block }
-    ensures kept { store.new ≡ store.old }
-    ensures found { Found (current_at store.old.0) block speed (entries result.leaf) result.left result.right }
+    requires { SoundAt (current_at store.old.0.0) block }
+    ensures kept { store.new.0 ≡ store.old.0 }
+    ensures calls { D.Device.led [] store.old.1 store.new.1 }
+    ensures found { Found (current_at store.old.0.0) block speed (entries result.leaf) result.left result.right }
 {
     let page = store.read_page(block);
     if page.level == 0 {

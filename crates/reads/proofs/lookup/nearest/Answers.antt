@@ -12,6 +12,6 @@ returns-in-Some-clause-nearest g c =
     let leaf = entries c.descend.result.leaf in
     let f = c.descend.ensures.found in
     let rows : map pair_of c.deref.result.now ≡ map_e angle_of leaf = ap (map pair_of) c.deref.ensures.0 ∙ c.rows_of.ensures in (
-      c.of.ensures.0 ∙ ap (up_to c.args.speed) rows ∙ near_up angle_of (current_at c.args.store.now.0) c.args.speed c.args.block c.in-Some.block leaf _ _ c.in-Some.is c.requires f,
-      c.of.ensures.1 ∙ ap (past c.args.speed) rows ∙ near_past angle_of (current_at c.args.store.now.0) c.args.speed c.args.block c.in-Some.block leaf _ _ c.in-Some.is c.requires f,
+      c.of.ensures.0 ∙ ap (up_to c.args.speed) rows ∙ near_up angle_of (current_at c.args.store.now.0.0) c.args.speed c.args.block c.in-Some.block leaf _ _ c.in-Some.is c.requires f,
+      c.of.ensures.1 ∙ ap (past c.args.speed) rows ∙ near_past angle_of (current_at c.args.store.now.0.0) c.args.speed c.args.block c.in-Some.block leaf _ _ c.in-Some.is c.requires f,
     )
