@@ -11,8 +11,8 @@ ghost use Rattle.edit.specs.Edited.{Granted};
 ghost use Rattle.page.specs.Slot.{Table};
 ghost use Rattle.model.specs.World.{sizes, found, fresh, bare};
 ghost use Rattle.model.specs.declared.refusal.Refusal.TheVariants.{Number};
-ghost use Rattle.mount.specs.Formats.{Made, Hindered};
-ghost use Rattle.mount.specs.Mounts.{Accepted, Off, Refused};
+ghost use Rattle.mount.specs.Formats.{Made, hindrance};
+ghost use Rattle.mount.specs.Mounts.{Accepted, Off};
 ghost use Rattle.reads.specs.Summary.{summary_of};
 ghost use Rattle.reads.specs.Lists.{row_in};
 ghost use Rattle.volume.specs.Kept.{Called, Stands, lacking_in, rows_of_clone};
@@ -28,7 +28,6 @@ use page::page::Entry;
 use page::roots::{Root, Slot};
 use removal::remove_tree;
 pub use sealed::Sealed;
-use std::alloc::Global;
 use std::marker::Model;
 use table::{Pair, Row, Summary};
 
@@ -50,17 +49,17 @@ impl<D: Device> Model for Volume<D> {
 
     ghost use Rattle.volume.specs.Kept.{tables, Kept};
 
-    ghost view = { λ v. (tables v.working v.committed v.generation, v.store.0) };
+    ghost view = { λ v. (tables v.working v.committed v.generation, v.store.0.0) };
 
-    ghost invariant = { λ v. Kept (tables v.working v.committed v.generation) v.store };
+    ghost invariant = { λ v. Kept (tables v.working v.committed v.generation) v.store.0 };
 }
 
 // So many free blocks for a change of a clone; refuses where fewer are free, and where fewer writes are left.
 fn reserve<D: Device>(store: &Store<D>, clone: u32, n: u32) -> Result<Grant, Refusal>
     requires { n ≤ 11 }
     ensures { MatchResult result
-        (λ grant. (lacking_in store.now clone n ≡ None) × Granted n store.now grant)
-        (λ e. lacking_in store.now clone n ≡ Some e) }
+        (λ grant. (lacking_in store.now.0 clone n ≡ None) × Granted n store.now.0 grant)
+        (λ e. lacking_in store.now.0 clone n ≡ Some e) }
 {
     let Some(mut grant) = store.grant(n as usize) else {
         return Err(Refusal::Short);
@@ -79,12 +78,12 @@ fn reserve<D: Device>(store: &Store<D>, clone: u32, n: u32) -> Result<Grant, Ref
 
 impl<D: Device> Volume<D> {
     // Makes an empty volume on a device, or gives the device back with the reason why it cannot.
-    pub fn format(heap: Global, device: D) -> Result<Volume<D>, (D, Refusal)>
+    pub fn format(device: D) -> Result<Volume<D>, (D, Refusal)>
         ensures { MatchResult result
             (λ v. (v.0 ≡ bare) × Made (D.Device.meaning device) v.1)
-            (λ e. (D.Device.meaning e.0 ≡ D.Device.meaning device) × Hindered (D.Device.meaning device) e.1) }
+            (λ e. (D.Device.meaning e.0 ≡ D.Device.meaning device) × (hindrance (D.Device.meaning device) ≡ Some e.1)) }
     {
-        let counts = match no_counts(heap, &device) {
+        let counts = match no_counts(&device) {
             Ok(counts) => counts,
             Err(refusal) => return Err((device, refusal)),
         };
@@ -98,13 +97,13 @@ impl<D: Device> Volume<D> {
     }
 
     // Mounts what a device holds, or gives the device back with the reason why it holds no volume.
-    pub fn mount(heap: Global, device: D) -> Result<Volume<D>, (D, Refusal)>
+    pub fn mount(device: D) -> Result<Volume<D>, (D, Refusal)>
         ensures kept { MatchResult result (λ v. v.1 ≡ D.Device.meaning device) (λ e. D.Device.meaning e.0 ≡ D.Device.meaning device) }
         ensures answer { MatchResult result
             (λ v. (x : ℕ × Table) × (found (D.Device.meaning device) ≡ Ok x) × (v.0 ≡ fresh x))
-            (λ e. Refused (D.Device.meaning device) e.1) }
+            (λ e. Off (D.Device.meaning device) e.1) }
     {
-        Ok(Volume::over(mount_store(heap, device)?))
+        Ok(Volume::over(mount_store(device)?))
     }
 
     // Mounts again what the device holds, by the memory that the counts have.
@@ -127,8 +126,8 @@ impl<D: Device> Volume<D> {
 
     // The volume that was mounted.
     fn over(mounted: Mounted<D>) -> Volume<D>
-        requires { Accepted mounted.store (slot_of mounted.slot) }
-        ensures { result ≡ (fresh (slot_of mounted.slot), mounted.store.0) }
+        requires { Accepted mounted.store.0 (slot_of mounted.slot) }
+        ensures { result ≡ (fresh (slot_of mounted.slot), mounted.store.0.0) }
     {
         let Mounted { store, slot } = mounted;
         let Slot { generation, places } = slot;

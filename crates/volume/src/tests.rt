@@ -15,7 +15,7 @@ fn siblings_keep_their_rows(rt: HostRuntime) -> Result<(), Fail> {
     let Ok(memory) = Memory::open(&mut current, &mut persisted, &mut marks, 32) else {
         return Err(Fail::new("the slices have the shape"));
     };
-    let Ok(mut volume) = Volume::format(rt.alloc(), memory) else {
+    let Ok(mut volume) = Volume::format(memory) else {
         return Err(Fail::new("a memory of that size is formatted"));
     };
     assert_eq!(rt; volume.create(0), Ok(()));
@@ -71,7 +71,7 @@ fn a_finished_table_is_mounted(rt: HostRuntime) -> Result<(), Fail> {
     let Ok(memory) = Memory::open(&mut current, &mut persisted, &mut marks, 32) else {
         return Err(Fail::new("the slices have the shape"));
     };
-    let Ok(mut volume) = Volume::format(rt.alloc(), memory) else {
+    let Ok(mut volume) = Volume::format(memory) else {
         return Err(Fail::new("a memory of that size is formatted"));
     };
     assert_eq!(rt; volume.create(3), Ok(()));
@@ -92,7 +92,7 @@ fn a_finished_table_is_mounted(rt: HostRuntime) -> Result<(), Fail> {
     };
     assert_eq!(rt; volume.get(3, 700), Ok(Some(40)));
     assert_eq!(rt; volume.get(4, 700), Err(Refusal::Absent));
-    let Ok(mut volume) = Volume::mount(rt.alloc(), volume.into_device()) else {
+    let Ok(mut volume) = Volume::mount(volume.into_device()) else {
         return Err(Fail::new("a finished volume mounts"));
     };
     assert_eq!(rt; volume.get(3, 700), Ok(Some(40)));
@@ -115,7 +115,7 @@ fn a_small_memory_is_refused(rt: HostRuntime) -> Result<(), Fail> {
     let Ok(memory) = Memory::open(&mut current, &mut persisted, &mut marks, 32) else {
         return Err(Fail::new("the slices have the shape"));
     };
-    let (_memory, refusal) = match Volume::format(rt.alloc(), memory) {
+    let (_memory, refusal) = match Volume::format(memory) {
         Err(refused) => refused,
         Ok(volume) => {
             let _memory = volume.into_device();
@@ -131,10 +131,10 @@ fn writes_run_out(rt: HostRuntime) -> Result<(), Fail> {
     // There is room for one record, and so for one write.
     let mut image = [0u32; 34];
     image[0] = 0x8000_0000;
-    let Ok(log) = Log::open(rt.alloc(), &mut image, 16, 32) else {
+    let Ok(log) = Log::open(&mut image, 16, 32) else {
         return Err(Fail::new("a new log is refused"));
     };
-    let (_log, refusal) = match Volume::format(rt.alloc(), log) {
+    let (_log, refusal) = match Volume::format(log) {
         Err(refused) => refused,
         Ok(volume) => {
             let _log = volume.into_device();
@@ -145,10 +145,10 @@ fn writes_run_out(rt: HostRuntime) -> Result<(), Fail> {
     // There is room for three.
     let mut image = [0u32; 100];
     image[0] = 0x8000_0000;
-    let Ok(log) = Log::open(rt.alloc(), &mut image, 16, 32) else {
+    let Ok(log) = Log::open(&mut image, 16, 32) else {
         return Err(Fail::new("a new log is refused"));
     };
-    let volume = match Volume::format(rt.alloc(), log) {
+    let volume = match Volume::format(log) {
         Ok(volume) => volume,
         Err(refused) => {
             let (_log, _) = refused;
