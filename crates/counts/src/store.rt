@@ -2,7 +2,8 @@
 ghost use Rattle.std.specs.Prelude.{◌≡◌, ℕ, ◌+◌, ◌-◌, ◌<◌, ◌≤◌, ◌==◌, true, false, [], ◌∷◌, length, is_some, Some, None, if◌then◌else◌, MatchResult, slice_index};
 ghost use Rattle.std.specs.Option.{option_map};
 ghost use Rattle.device.specs.Meaning.{blocks_of, shown_of, reading, written, flushed};
-ghost use Rattle.page.specs.Block.{block_at, decode};
+ghost use Rattle.device.specs.Cuts.{Op.write, Op.flush};
+ghost use Rattle.page.specs.Block.{block_at, decode, encode};
 ghost use Rattle.page.specs.Io.{Wide, ReadAs};
 ghost use Rattle.page.specs.Slot.{decode_slot};
 ghost use Rattle.page.specs.View.{view, slot_of};
@@ -28,17 +29,17 @@ pub struct Store<D: Device> {
     hint: usize,
 }
 
-// What the device means, and the counts.
+// What the device means, and the counts; and the device itself, so that its calls can be spoken of.
 impl<D: Device> Model for Store<D> {
     ghost use Rattle.std.specs.Prelude.{◌≡◌, length};
     ghost use Rattle.counts.specs.Moves.{State};
 
-    ghost Value = { State };
+    ghost Value = { State × D };
 
     ghost use Rattle.device.specs.Meaning.{blocks_of};
     ghost use Rattle.page.specs.Io.{Wide};
 
-    ghost view = { λ s. (D.Device.meaning s.device, s.counts.of.items) };
+    ghost view = { λ s. ((D.Device.meaning s.device, s.counts.of.items), s.device) };
 
     ghost use Rattle.counts.specs.Hint.{Taken};
 
@@ -50,7 +51,7 @@ impl<D: Device> Store<D> {
     pub fn new(device: D, counts: Counts) -> Store<D>
         requires wide { Wide (D.Device.meaning device) }
         requires sized { length counts.of.items ≡ blocks_of (D.Device.meaning device) }
-        ensures { result ≡ (D.Device.meaning device, counts.of.items) }
+        ensures { result ≡ ((D.Device.meaning device, counts.of.items), device) }
     {
         Store {
             device,
@@ -61,7 +62,7 @@ impl<D: Device> Store<D> {
 
     // The device and the counts.
     pub fn into_parts(self) -> (D, Counts)
-        ensures { (D.Device.meaning result.0, result.1.of.items) ≡ self }
+        ensures { ((D.Device.meaning result.0, result.1.of.items), result.0) ≡ self }
     {
         let Store {
             device,
@@ -73,15 +74,15 @@ impl<D: Device> Store<D> {
 
     // The number of blocks, and what every store keeps.
     pub fn blocks(&self) -> u32
-        ensures blocks { result ≡ blocks_of self.now.0 }
-        ensures shape { Shaped self.now }
+        ensures blocks { result ≡ blocks_of self.now.0.0 }
+        ensures shape { Shaped self.now.0 }
     {
         self.device.blocks()
     }
 
     // How many writes are left, and which layer sets that limit.
     pub fn left(&self) -> (u32, LayerMark)
-        ensures { result ≡ (self.now.0.left, self.now.0.left_mark) }
+        ensures { result ≡ (self.now.0.0.left, self.now.0.0.left_mark) }
     {
         self.device.left()
     }
@@ -89,61 +90,69 @@ impl<D: Device> Store<D> {
     // The n lowest free blocks, if there are so many.
     pub fn grant(&self, n: usize) -> Option<Grant>
         requires { n ≤ 11 }
-        ensures these { result ≡ lowest_free n self.now.1 }
-        ensures shape { Shaped self.now }
+        ensures these { result ≡ lowest_free n self.now.0.1 }
+        ensures shape { Shaped self.now.0 }
     {
         Grant::lowest(&self.counts, self.hint, n)
     }
 
     // The slot that a block holds, if it holds one.
     pub fn read_slot(&mut self, block: u32) -> Result<Option<Slot>, DeviceFault>
-        ensures kept { self.new ≡ self.old }
-        ensures answer { ReadAs (λ ws s. option_map slot_of s ≡ decode_slot ws) (reading D.Reader.code (shown_of self.old.0) block self.old.0.width) result }
+        ensures kept { self.new.0 ≡ self.old.0 }
+        ensures calls { D.Device.led [] self.old.1 self.new.1 }
+        ensures answer { ReadAs (λ ws s. option_map slot_of s ≡ decode_slot ws)
+            (reading D.Reader.code (shown_of self.old.0.0) block self.old.0.0.width) result }
     {
         read_slot(&mut self.device, block)
     }
 
     // Writes a value to a block, on a device that has a write left.
     pub fn write<T: Stored>(&mut self, block: u32, value: &T)
-        requires on { block < blocks_of self.old.0 }
-        requires left { 1 ≤ self.old.0.left }
+        requires on { block < blocks_of self.old.0.0 }
+        requires left { 1 ≤ self.old.0.0.left }
         requires storable { T.Stored.storable value.now }
-        ensures { self.new ≡ (written self.old.0 block (T.Stored.words_of self.old.0.width value.now), self.old.1) }
+        ensures state { self.new.0 ≡ (written self.old.0.0 block (T.Stored.words_of self.old.0.0.width value.now), self.old.0.1) }
+        ensures calls { D.Device.led (write block (T.Stored.words_of self.old.0.0.width value.now) ∷ []) self.old.1 self.new.1 }
     {
         write_block(&mut self.device, block, value).unwrap();
     }
 
     // Makes every current content the persisted one.
     pub fn flush(&mut self)
-        ensures { self.new ≡ (flushed self.old.0, self.old.1) }
+        ensures state { self.new.0 ≡ (flushed self.old.0.0, self.old.0.1) }
+        ensures calls { D.Device.led (flush ∷ []) self.old.1 self.new.1 }
     {
         self.device.flush();
     }
 
     // One reference more to a block; whether it is the first.
     pub fn retain(&mut self, block: u32) -> bool
-        requires within { block < blocks_of self.old.0 }
-        requires room { slice_index self.old.1 block < 65535 }
-        ensures first { result ≡ (slice_index self.old.1 block == 0) }
-        ensures kept { self.new.0 ≡ self.old.0 }
-        ensures counts { self.new.1 ≡ retained block self.old.1 }
+        requires within { block < blocks_of self.old.0.0 }
+        requires room { slice_index self.old.0.1 block < 65535 }
+        ensures first { result ≡ (slice_index self.old.0.1 block == 0) }
+        ensures kept { self.new.0.0 ≡ self.old.0.0 }
+        ensures device { self.new.1 ≡ self.old.1 }
+        ensures counts { self.new.0.1 ≡ retained block self.old.0.1 }
     {
         self.counts.retain(block)
     }
 
     // Reads the page of a block that holds one, over what was read before.
     pub fn load(&mut self, block: u32, page: &mut PageWords)
-        requires { is_some (block_at self.old.0 block) ≡ true }
-        ensures kept { self.new ≡ self.old }
-        ensures page { block_at self.old.0 block ≡ Some page.new }
+        requires { is_some (block_at self.old.0.0 block) ≡ true }
+        ensures kept { self.new.0 ≡ self.old.0 }
+        ensures calls { D.Device.led [] self.old.1 self.new.1 }
+        ensures page { block_at self.old.0.0 block ≡ Some page.new }
     {
         page.load(&mut self.device, block);
     }
 
     // Reads a block that may hold a page, over what was read before; whether it does. If not, an empty leaf is left.
     pub fn try_load(&mut self, block: u32, page: &mut PageWords) -> Result<bool, DeviceFault>
-        ensures kept { self.new ≡ self.old }
-        ensures answer { ReadAs (λ ws holds. decode ws ≡ (if holds then Some page.new else None)) (reading D.Reader.code (shown_of self.old.0) block self.old.0.width) result }
+        ensures kept { self.new.0 ≡ self.old.0 }
+        ensures calls { D.Device.led [] self.old.1 self.new.1 }
+        ensures answer { ReadAs (λ ws holds. decode ws ≡ (if holds then Some page.new else None))
+            (reading D.Reader.code (shown_of self.old.0.0) block self.old.0.0.width) result }
         ensures left { MatchResult result (λ holds. holds ≡ false → page.new ≡ record { level = 0; entries = [] }) (λ _. page.new ≡ page.old) }
     {
         page.try_load(&mut self.device, block)
@@ -151,9 +160,10 @@ impl<D: Device> Store<D> {
 
     // The page of a block that holds one.
     pub fn read_page(&mut self, block: u32) -> Page
-        requires { is_some (block_at self.old.0 block) ≡ true }
-        ensures kept { self.new ≡ self.old }
-        ensures page { block_at self.old.0 block ≡ Some (view result) }
+        requires { is_some (block_at self.old.0.0 block) ≡ true }
+        ensures kept { self.new.0 ≡ self.old.0 }
+        ensures calls { D.Device.led [] self.old.1 self.new.1 }
+        ensures page { block_at self.old.0.0 block ≡ Some (view result) }
     {
         let mut words = PageWords::empty();
         self.load(block, &mut words);
@@ -162,10 +172,11 @@ impl<D: Device> Store<D> {
 
     // Gives up a reference to a block for references to its children.
     pub fn open(&mut self, block: u32) -> Page
-        requires { Owned self.old block }
-        ensures page { block_at self.old.0 block ≡ Some (view result) }
-        ensures state { self.new ≡ step (opening block) self.old }
-        ensures shape { Shaped self.old }
+        requires { Owned self.old.0 block }
+        ensures page { block_at self.old.0.0 block ≡ Some (view result) }
+        ensures state { self.new.0 ≡ step (opening block) self.old.0 }
+        ensures calls { D.Device.led [] self.old.1 self.new.1 }
+        ensures shape { Shaped self.old.0 }
     {
         let page = self.read_page(block);
         self.open_page(block, &page);
@@ -174,10 +185,11 @@ impl<D: Device> Store<D> {
 
     // The same, where the page of the block was read before.
     pub fn open_page(&mut self, block: u32, page: &Page)
-        requires owned { Owned self.old block }
-        requires holds { block_at self.old.0 block ≡ Some (view page.now) }
-        ensures state { self.new ≡ step (opening block) self.old }
-        ensures shape { Shaped self.old }
+        requires owned { Owned self.old.0 block }
+        requires holds { block_at self.old.0.0 block ≡ Some (view page.now) }
+        ensures state { self.new.0 ≡ step (opening block) self.old.0 }
+        ensures device { self.new.1 ≡ self.old.1 }
+        ensures shape { Shaped self.old.0 }
     {
         self.counts.open(block, page);
         self.hint = self.counts.freed(self.hint, block);
@@ -185,11 +197,12 @@ impl<D: Device> Store<D> {
 
     // Writes a page to a block that nothing refers to; the references to its children go over into it, and one to it is held.
     pub fn link(&mut self, block: u32, page: &Page)
-        requires on { block < blocks_of self.old.0 }
-        requires free { slice_index self.old.1 block ≡ 0 }
-        requires left { 1 ≤ self.old.0.left }
+        requires on { block < blocks_of self.old.0.0 }
+        requires free { slice_index self.old.0.1 block ≡ 0 }
+        requires left { 1 ≤ self.old.0.0.left }
         requires low { page.now.level < 5 }
-        ensures { self.new ≡ step (linking block (view page.now)) self.old }
+        ensures state { self.new.0 ≡ step (linking block (view page.now)) self.old.0 }
+        ensures calls { D.Device.led (write block (encode self.old.0.0.width (view page.now)) ∷ []) self.old.1 self.new.1 }
     {
         self.write(block, page);
         self.counts.set(block, 1);
@@ -198,10 +211,11 @@ impl<D: Device> Store<D> {
 
     // Gives up a reference to a block; where it was the last, those to its children too.
     pub fn release(&mut self, block: u32, level: u32)
-        requires { Held self.old block level }
-        ensures kept { self.new.0 ≡ self.old.0 }
-        ensures dropped { Dropped (block ∷ []) self.old self.new.1 }
-        ensures sized { length self.new.1 ≡ length self.old.1 }
+        requires { Held self.old.0 block level }
+        ensures kept { self.new.0.0 ≡ self.old.0.0 }
+        ensures calls { D.Device.led [] self.old.1 self.new.1 }
+        ensures dropped { Dropped (block ∷ []) self.old.0 self.new.0.1 }
+        ensures sized { length self.new.0.1 ≡ length self.old.0.1 }
     {
         let count = self.counts.get(block);
         self.counts.set(block, count - 1);

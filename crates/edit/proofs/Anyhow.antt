@@ -8,11 +8,14 @@ use Rattle.page.specs.Block.{Block, block_at, kids_of}
 use Rattle.counts.specs.Counts.{opened}
 use Rattle.edit.specs.Plan.{shallow, page, node_of, chosen, parted, placed, links, down, put_n, kid_moves, moves}
 use Rattle.counts.specs.Moves.{Move, opening, State, step, writes, Laid}
+use Rattle.device.specs.Cuts.{Op}
+use Rattle.edit.specs.Calls.{ops}
+use Rattle.edit.proofs.Traces.{ops_append}
 use Rattle.edit.specs.Able.{Ready, Able, Made, Open}
 use Rattle.counts.specs.Moves.{Shaped, Owned}
 use Rattle.edit.proofs.States.{same_by, writes_append}
 use Rattle.edit.proofs.Parting.{By}
-use Rattle.edit.proofs.Downs.{Covers, owned, key_is, number_is, child_node, part_ready, opened_free, up, shallow_length}
+use Rattle.edit.proofs.Downs.{Covers, owned, key_is, number_is, child_node, part_ready, opened_free, up, moves_below, links_flat, shallow_length}
 use Rattle.edit.proofs.Keeps.{keeps}
 
 -- at most two writes a level
@@ -78,6 +81,10 @@ module _ (m : Meaning) (cs gs : List ℕ) (n : Block) (s : ℕ) where
   pub leaf_made : (a : ℕ) (r : Block) → n.level ≡ 0 → r.level ≡ n.level → r.entries ≡ ins s a n.entries → (l : ℕ) (es : List (ℕ × Pay ℕ ℕ l)) → Ready (m, cs) gs n s l es → Made (m, cs) (m, cs) gs s a l es r
   leaf_made a r z v e zero es p = record { is = ap₂ page (v ∙ z) (e ∙ ap (λ (x : Block). ins s a x.entries) p.is); state = refl; laid = tt }
   leaf_made a r z v e (suc l) es p = absurd (omega (arith, z, ap (λ (x : Block). x.level) p.is))
+
+  pub leaf_calls : (K : List Op → Type 0) → K [] → n.level ≡ 0 → (a l : ℕ) (es : List (ℕ × Pay ℕ ℕ l)) → Ready (m, cs) gs n s l es → K (ops m.width (moves gs s a l es))
+  leaf_calls K k z a zero es p = k
+  leaf_calls K k z a (suc l) es p = absurd (omega (arith, z, ap (λ (x : Block). x.level) p.is))
 
   pub room : Able (m, cs) gs n s → length n.entries ≤ 14
   room a = omega (arith, a.ready.room, ap (λ (x : Block). length x.entries) a.ready.is, shallow_length a.l a.es)
@@ -202,3 +209,31 @@ module _ (m : Meaning) (cs gs : List ℕ) (n : Block) (s : ℕ) where
             up m cs gs n s l es p i x C a q₁ q₂ q₃ ks r (opened_is l es p) M.state
             (subst (λ (w : ℕ). Laid w (moves gs s a l (chosen s t.1))) (ap (λ (z : State). z.0.width) P.state) M.laid) b₄
             (e ∙ ap (λ (x : ℕ). page x (take i n.entries ++ (ks ++ drop (suc i) n.entries))) (ap (λ (x : Block). x.level) p.is))
+
+        -- the calls: those that make the part, and those that link what stands for the child
+        pub up_calls : (K₁ K₂ K₃ : List Op → Type 0) → ((os ps : List Op) → K₁ os → K₂ ps → K₃ (os ++ ps))
+            → ((l : ℕ) (es : List (ℕ × Pay ℕ ℕ l)) → Ready q₁ gs part s l es → K₁ (ops q₁.0.width (moves gs s a l es)))
+            → K₂ (ops q₂.0.width (links child.level (placed (get_or hs 0 0) (get_or hs 1 0) (parted s x.0 child.entries made.entries))))
+            → (l : ℕ) (es : List (ℕ × Pay ℕ ℕ l)) → Ready (m, cs) gs n s l es → K₃ (ops m.width (moves gs s a l es))
+        up_calls K₁ K₂ K₃ join below linked zero es p = absurd (C.above (ap (λ (x : Block). x.level) p.is))
+        up_calls K₁ K₂ K₃ join below linked (suc l) es p =
+            let t : Tree ℕ ℕ l = (get_or es i (0, (0, []))).1 in
+            let k : ℕ = (get_or es i (0, (0, []))).0 in
+            let R = inner l es p in
+            let M = f l (chosen s t.1) R in
+            let c = child_is l es p in
+            let u : ℕ = get_or gs (2 * l) 0 in
+            let v : ℕ = get_or gs (2 * l + 1) 0 in
+            let old : List (ℕ × List (ℕ × ℕ)) = parted s x.0 child.entries made.entries in
+            let ps : old ≡ parted s k (shallow l t.1) (shallow l (put_n gs s a l (chosen s t.1))) =
+            ap (λ (y : ℕ). parted s y child.entries made.entries) (key_is m cs gs n s l es p i x C) ∙ ap₂ (λ (x y : Block). parted s k x.entries y.entries) c M.is in
+            let above : List Move = moves gs s a l (chosen s t.1) in
+            let beside : List Move = links l (map_e (λ c. (c.0, shallow l c.1)) (placed u v (parted s k t.1 (put_n gs s a l (chosen s t.1))))) in
+            let same : links child.level (placed (get_or hs 0 0) (get_or hs 1 0) old) ≡ beside
+            = ap (λ (y : ℕ). links y (placed (get_or hs 0 0) (get_or hs 1 0) old)) (ap (λ (x : Block). x.level) c)
+            ∙ ap (λ (y : ℕ). links l (placed y (get_or hs 1 0) old)) (left_is l es p) ∙ ap (λ (y : ℕ). links l (placed u y old)) (right_is l es p)
+            ∙ ap (λ (z : List (ℕ × List (ℕ × ℕ))). links l (placed u v z)) ps ∙ links_flat m cs gs n s l es p i x C a u v in
+            let w₁ : q₁.0.width ≡ m.width = ap (λ (z : State). z.0.width) P.state in
+            let w₂ : q₂.0.width ≡ m.width = (same_by above q₁ q₂ M.state).width ∙ w₁ in
+            subst K₃ (sym (ap (ops m.width) (moves_below m cs gs n s l es p i x C a) ∙ ops_append m.width above beside))
+            (join (ops m.width above) (ops m.width beside) (subst (λ (w : ℕ). K₁ (ops w above)) w₁ (below l (chosen s t.1) R)) (subst K₂ (ap₂ ops w₂ same) linked))

@@ -9,10 +9,12 @@ use Rattle.counts.specs.Moves.{Move, linking, State, step, run}
 use Rattle.model.specs.TreeBlocks as model
 use Rattle.model.specs.TreeBlocks.{Change.begin, changed_on, new_blocks, bare_tree, root_of}
 use Rattle.edit.specs.Plan.{page}
+use Rattle.device.specs.Cuts.{Op, Op.write}
+use Rattle.edit.specs.Calls.{ops}
 use Rattle.edit.specs.Edited.{Granted, Edited}
 use Rattle.edit.proofs.States.{run_same}
 use Rattle.edit.proofs.Keeps.{link_counted}
-use Rattle.edit.proofs.Traces.{ops, run_replay, ops_free}
+use Rattle.edit.proofs.Traces.{run_replay, ops_free}
 use Rattle.edit.proofs.Trees.{Spare}
 use Rattle.edit.proofs.Editing.{lowest, spares}
 
@@ -47,14 +49,16 @@ module _ (m : Meaning) (cs gs : List ℕ) (G : Granted 1 (m, cs) gs) (x : ℕ) (
   once : (b : ℕ) → occ b (x ∷ []) ≡ occ b (new_blocks begin (free_blocks cs) bare_tree)
   once b = ap (λ (y : ℕ). occ b (y ∷ [])) first
 
-  pub created : (made : Block) → made.level ≡ 0 → made.entries ≡ [] → (q : State) → q ≡ step (linking x made) (m, cs) → Edited begin bare_tree (m, cs) q
+  pub created_calls : (made : Block) → made.level ≡ 0 → made.entries ≡ [] → (K : List Op → Type 0) → K (write x (encode m.width made) ∷ []) → K (ops m.width (linking x leaf ∷ []))
+  created_calls made lv es K k = subst K (ap₂ (λ (l : ℕ) (es : List (ℕ × ℕ)). write x (encode m.width (page l es)) ∷ []) lv es) k
+
+  pub created : (made : Block) → made.level ≡ 0 → made.entries ≡ [] → (q : State) → q ≡ step (linking x made) (m, cs) → Edited (ops m.width (linking x leaf ∷ [])) begin bare_tree (m, cs) q
   created made lv es q eq =
       let q₀ : State = (m, cs) in
       let vs : List Move = linking x leaf ∷ [] in
       let to : q ≡ run vs q₀ = eq ∙ ap₂ (λ (k : ℕ) (es : List (ℕ × ℕ)). step (linking x (page k es)) q₀) lv es in
       let A = leaf_spare in
-      subst (λ (z : State). Edited begin bare_tree (m, cs) z) (sym to) (record {
-        os = ops m.width vs;
+      subst (λ (z : State). Edited (ops m.width vs) begin bare_tree (m, cs) z) (sym to) (record {
         trace = run_replay vs q₀;
         free = ops_free m cs m.width vs refl (laid, tt) (A, tt);
         once = once;

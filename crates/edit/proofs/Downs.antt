@@ -271,6 +271,15 @@ module _ (m : Meaning) (cs gs : List ℕ) (n : Block) (s l : ℕ) (es : List (�
         };
       }
 
+  pub moves_below : (a : ℕ) → moves gs s a (suc l) es ≡ kid_moves gs s a l (moves gs s a l) k t
+  moves_below a = down_index (Loose (suc l)) (loose_le l) s (kid_moves gs s a l (moves gs s a l)) p.lo p.hi es i d p.span at_e low_e high_e
+
+  pub links_flat : (a x y : ℕ) → links l (placed x y (parted s k (shallow l t.1) (shallow l (put_n gs s a l (chosen s t.1)))))
+      ≡ links l (map_e (λ c. (c.0, shallow l c.1)) (placed x y (parted s k t.1 (put_n gs s a l (chosen s t.1)))))
+  links_flat a x y =
+      let made = put_n gs s a l (chosen s t.1) in
+      ap (λ z. links l (placed x y z)) (parted_shallow s l k t.1 made) ∙ ap (links l) (placed_map (shallow l) x y (parted s k t.1 made))
+
   pub up : (a : ℕ) (q₁ q₂ q₃ : State) (ks : List (ℕ × ℕ)) (r : Block) → q₁ ≡ step (opening t.0) (m, cs) → q₂ ≡ run (moves gs s a l (chosen s t.1)) q₁ → Laid m.width (moves gs s a l (chosen s t.1))
       → By l (get_or gs (2 * l) 0) (get_or gs (2 * l + 1) 0) q₂ q₃ ks (parted s k (shallow l t.1) (shallow l (put_n gs s a l (chosen s t.1))))
       → r ≡ page (suc l) (take i n.entries ++ (ks ++ drop (suc i) n.entries)) → Made (m, cs) q₃ gs s a (suc l) es r
@@ -283,8 +292,8 @@ module _ (m : Meaning) (cs gs : List ℕ) (n : Block) (s l : ℕ) (es : List (�
       let K = kid_n gs s a l (put_n gs s a l) in
       let flat : parted s k (shallow l t.1) (shallow l made) ≡ map_e (shallow l) ps = parted_shallow s l k t.1 made in
       let at-is : at s K es ≡ take i es ++ (K k t ++ drop (suc i) es) = at_index (Loose (suc l)) (loose_le l) s K p.lo p.hi es i d p.span at_e low_e high_e in
-      let mv : moves gs s a (suc l) es ≡ kid_moves gs s a l (moves gs s a l) k t = down_index (Loose (suc l)) (loose_le l) s (kid_moves gs s a l (moves gs s a l)) p.lo p.hi es i d p.span at_e low_e high_e in
-      let lk : links l (placed x y (parted s k (shallow l t.1) (shallow l made))) ≡ links l (map_e (λ c. (c.0, shallow l c.1)) (placed x y ps)) = ap (λ z. links l (placed x y z)) flat ∙ ap (links l) (placed_map (shallow l) x y ps) in
+      let mv = moves_below a in
+      let lk = links_flat a x y in
       let keys : ks ≡ map_e F (placed x y ps) = by.kids ∙ ap (λ z. map_e (λ c. c.0) (placed x y z)) flat ∙ placed_keys (shallow l) x y ps in
       let tk : take i n.entries ≡ map_e F (take i es) = ap (λ (z : Block). take i z.entries) p.is ∙ sym (map_take F i es) in
       let dr : drop (suc i) n.entries ≡ map_e F (drop (suc i) es) = ap (λ (z : Block). drop (suc i) z.entries) p.is ∙ sym (map_drop F (suc i) es) in

@@ -11,6 +11,7 @@ use Rattle.counts.specs.Moves.{Shaped}
 use Rattle.model.specs.TreeBlocks.{Tree, Change, Change.begin, Change.puts, bare_tree, changed_on, tree_at, root_of, Stored, Each, Fit, Good}
 use Rattle.model.proofs.TreeLaws.{tree_stored, grow_fit, begin_fit}
 use Rattle.edit.specs.Kept.{Free}
+use Rattle.device.specs.Cuts.{Op}
 use Rattle.edit.specs.Edited.{Editable, Granted, Edited}
 use Rattle.edit.proofs.Trees.{Spare, Rooted, from_model}
 use Rattle.model.proofs.Grants.{tall}
@@ -99,25 +100,25 @@ pub frees_inside : (m : Meaning) (cs : List ℕ) → Shaped (m, cs) → Each (λ
 frees_inside m cs C =
     each_by (λ x. (2 ≤ x) × (x < blocks_of m)) (free_blocks cs) (λ i lt. let q = spare_at (length cs - 2) 2 cs i lt in (q.0, omega (arith, q.0, q.1, C.sized)))
 
-pub good_after : (d : Change ℕ) (t : Tree) (m : Meaning) (cs : List ℕ) (m' : Meaning) (cs' : List ℕ) (r : Root) → r ≡ root_of (changed_on ℕ d (free_blocks cs) t) → Edited d t (m, cs) (m', cs') → Fit (blocks_of m) (changed_on ℕ d (free_blocks cs) t)
+pub good_after : {os : List Op} (d : Change ℕ) (t : Tree) (m : Meaning) (cs : List ℕ) (m' : Meaning) (cs' : List ℕ) (r : Root) → r ≡ root_of (changed_on ℕ d (free_blocks cs) t) → Edited os d t (m, cs) (m', cs') → Fit (blocks_of m) (changed_on ℕ d (free_blocks cs) t)
     → Good (blocks_of m') (current_at m') r
-good_after d t m cs m' cs' r e E F =
+good_after {os} d t m cs m' cs' r e E F =
     let u : Tree = changed_on ℕ d (free_blocks cs) t in
     let back : tree_at (current_at m') (root_of u) ≡ u = tree_stored (current_at m') u E.stored in
-    let n : blocks_of m' ≡ blocks_of m = ap blocks_of E.trace ∙ blocks_replay E.os m in
+    let n : blocks_of m' ≡ blocks_of m = ap blocks_of E.trace ∙ blocks_replay os m in
     subst (λ (x : Root). Good (blocks_of m') (current_at m') x) (sym e) (record {
       height = omega arith;
       stored = subst (Stored (current_at m')) (sym back) E.stored;
       fit = subst (Fit (blocks_of m')) (sym back) (subst (λ (k : ℕ). Fit k u) (sym n) F);
     })
 
-pub good_put : (m : Meaning) (cs gs : List ℕ) (root : Root) (s a : ℕ) → Editable (m, cs) root → Granted (2 * root.0 + 1) (m, cs) gs → s < 10000 → a ≤ 18000 → (m' : Meaning) (cs' : List ℕ) (r : Root)
-    → r ≡ root_of (changed_on ℕ (puts s a) (free_blocks cs) (tree_at (current_at m) root)) → Edited (puts s a) (tree_at (current_at m) root) (m, cs) (m', cs') → Good (blocks_of m') (current_at m') r
+pub good_put : {os : List Op} (m : Meaning) (cs gs : List ℕ) (root : Root) (s a : ℕ) → Editable (m, cs) root → Granted (2 * root.0 + 1) (m, cs) gs → s < 10000 → a ≤ 18000 → (m' : Meaning) (cs' : List ℕ) (r : Root)
+    → r ≡ root_of (changed_on ℕ (puts s a) (free_blocks cs) (tree_at (current_at m) root)) → Edited os (puts s a) (tree_at (current_at m) root) (m, cs) (m', cs') → Good (blocks_of m') (current_at m') r
 good_put m cs gs root s a E G sp k m' cs' r e D =
     let t : Tree = tree_at (current_at m) root in
     let hi = (rooted m cs gs root s E G sp).height in
     good_after (puts s a) t m cs m' cs' r e D (grow_fit (blocks_of m) (puts s a) (free_blocks cs) t (sp, k) (frees_inside m cs G.shape) (omega (arith, hi, G.enough)) E.good.fit)
 
-pub good_create : (m : Meaning) (cs gs : List ℕ) → Granted 1 (m, cs) gs → (m' : Meaning) (cs' : List ℕ) (r : Root)
-    → r ≡ root_of (changed_on ℕ begin (free_blocks cs) bare_tree) → Edited begin bare_tree (m, cs) (m', cs') → Good (blocks_of m') (current_at m') r
+pub good_create : {os : List Op} (m : Meaning) (cs gs : List ℕ) → Granted 1 (m, cs) gs → (m' : Meaning) (cs' : List ℕ) (r : Root)
+    → r ≡ root_of (changed_on ℕ begin (free_blocks cs) bare_tree) → Edited os begin bare_tree (m, cs) (m', cs') → Good (blocks_of m') (current_at m') r
 good_create m cs gs G m' cs' r e D = good_after begin bare_tree m cs m' cs' r e D (begin_fit (blocks_of m) (free_blocks cs) bare_tree (frees_inside m cs G.shape) G.enough)

@@ -11,6 +11,8 @@ use Rattle.model.specs.TreeBlocks.{Each}
 use Rattle.model.specs.World.{targets}
 use Rattle.model.proofs.Encoded.{encoded}
 use Rattle.edit.specs.Plan.{shallow, chosen, parted, placed, links, down, kid_n, put_n, kid_moves, moves}
+use Rattle.edit.specs.Calls.{ops}
+use Rattle.edit.specs.Fill.{opens}
 use Rattle.edit.specs.Edited.{WritesFree}
 
 -- the blocks that moves write
@@ -24,16 +26,19 @@ linked_append [] vs = refl
 linked_append (opening x ∷ us) vs = linked_append us vs
 linked_append (linking x n ∷ us) vs = ap (λ (z : List ℕ). x ∷ z) (linked_append us vs)
 
--- the device calls of moves, at width w
-abbrev pub ops : ℕ → List Move → List Op
-ops w [] = []
-ops w (opening x ∷ vs) = ops w vs
-ops w (linking x n ∷ vs) = write x (encode w n) ∷ ops w vs
-
 pub run_replay : (vs : List Move) (q : State) → (run vs q).0 ≡ replay (ops q.0.width vs) q.0
 run_replay [] q = refl
 run_replay (opening x ∷ vs) q = run_replay vs (step (opening x) q)
 run_replay (linking x n ∷ vs) q = run_replay vs (step (linking x n) q)
+
+pub ops_append : (w : ℕ) (us vs : List Move) → ops w (us ++ vs) ≡ ops w us ++ ops w vs
+ops_append w [] vs = refl
+ops_append w (opening x ∷ us) vs = ops_append w us vs
+ops_append w (linking x n ∷ us) vs = ap (λ (os : List Op). write x (encode w n) ∷ os) (ops_append w us vs)
+
+pub ops_opens : {X : Type 0} (w : ℕ) (es : List (ℕ × (ℕ × X))) → ops w (opens es) ≡ []
+ops_opens w [] = refl
+ops_opens w (e ∷ r) = ops_opens w r
 
 pub ops_targets : (w : ℕ) (vs : List Move) → targets (ops w vs) ≡ linked vs
 ops_targets w [] = refl

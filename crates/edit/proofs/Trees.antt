@@ -6,7 +6,7 @@ use Rattle.tree.specs.Node.{first, Every, map_e}
 use Rattle.tree.specs.Tree.{Tree, Wf, only}
 use Rattle.tree.proofs.Puts.{five_high}
 use Rattle.tree.proofs.Stores.{all_both}
-use Rattle.page.specs.Block.{Block, block_at, block_in, Layout}
+use Rattle.page.specs.Block.{Block, block_at, block_in, encode, Layout}
 use Rattle.page.specs.Io.{Wide}
 use Rattle.page.specs.Slot.{Root}
 use Rattle.counts.specs.Counts.{one, occ, Counted, free_blocks}
@@ -18,11 +18,13 @@ use Rattle.model.proofs.TreeLaws.{grow_wf}
 use Rattle.edit.specs.Plan.{page, node_of, kids, Stored, chosen, parted, placed, put_n, moves, put_root_n}
 use Rattle.edit.specs.Able.{Ready, Able, Made}
 use Rattle.edit.specs.Kept.{Free, Stands}
+use Rattle.device.specs.Cuts.{Op, Op.write}
+use Rattle.edit.specs.Calls.{ops}
 use Rattle.edit.specs.Edited.{given_up, Edited}
 use Rattle.edit.proofs.States.{same_by, run_same, run_append, laid_append}
 use Rattle.edit.proofs.Anyhow.{moves_writes}
 use Rattle.edit.proofs.Keeps.{keeps, link_counted, link_stored}
-use Rattle.edit.proofs.Traces.{linked, linked_append, ops, run_replay, ops_targets, ops_free, moves_each, each_linked}
+use Rattle.edit.proofs.Traces.{linked, linked_append, ops_append, run_replay, ops_targets, ops_free, moves_each, each_linked}
 use Rattle.edit.proofs.Changing.{root_numbers, root_one, root_more}
 
 -- what a block holds, in the words of the plan and of the model
@@ -54,13 +56,12 @@ Spare m cs b = (2 ≤ b) × (b < blocks_of m) × (get_or cs b 0 ≡ 0)
 pub edited_by : (m : Meaning) (cs : List ℕ) (d : Change ℕ) (r : model.Tree) (h : ℕ → ℕ) → Counted (block_at m) cs (λ b. given_up d r b + h b)
     → (v : model.Tree) (vs : List Move) → v ≡ changed_on ℕ d (free_blocks cs) r → Each (Spare m cs) (linked vs) → Laid m.width vs → ((b : ℕ) → occ b (linked vs) ≡ occ b (new_blocks d (free_blocks cs) r))
     → Stored (block_at (run vs (m, cs)).0) (suc v.0) v.1 → Counted (block_at (run vs (m, cs)).0) (run vs (m, cs)).1 (λ b. one v.1.0 b + h b)
-    → (q : State) → q ≡ run vs (m, cs) → Edited d r (m, cs) q
+    → (q : State) → q ≡ run vs (m, cs) → Edited (ops m.width vs) d r (m, cs) q
 edited_by m cs d r h old v vs e free laid once st ct q eq =
     let z : State = run vs (m, cs) in
     let u : model.Tree = changed_on ℕ d (free_blocks cs) r in
     let cu : Counted (block_at z.0) z.1 (λ b. one u.1.0 b + h b) = subst (λ (v : model.Tree). Counted (block_at z.0) z.1 (λ b. one v.1.0 b + h b)) e ct in
-    subst (λ (z : State). Edited d r (m, cs) z) (sym eq) (record {
-      os = ops m.width vs;
+    subst (λ (z : State). Edited (ops m.width vs) d r (m, cs) z) (sym eq) (record {
       trace = run_replay vs (m, cs);
       free = ops_free m cs m.width vs refl laid free;
       once = λ b. ap (occ b) (ops_targets m.width vs) ∙ once b;
@@ -212,7 +213,7 @@ module _ (m : Meaning) (cs gs : List ℕ) (root : Root) (s : ℕ) (r : model.Tre
         pub one_root : (root.0, b) ≡ root_of u
         one_root = ap₂ (λ (x y : ℕ). (x, y)) (sym p.height) number ∙ ap (λ (v : model.Tree). root_of v) u_one
 
-        pub one_edited : Edited (puts s a) r (m, cs) q
+        pub one_edited : Edited (ops m.width ms) (puts s a) r (m, cs) q
         one_edited =
             let q₁ : State = run ms q₀ in
             let st : Every (Stored (block_at q₁.0) (suc l)) (o ∷ []) = subst (Every (Stored (block_at q₁.0) (suc l))) one_is S.stored in
@@ -250,10 +251,18 @@ module _ (m : Meaning) (cs gs : List ℕ) (root : Root) (s : ℕ) (r : model.Tre
         pub more_root : (root.0 + 1, x) ≡ root_of u
         more_root = ap (λ (h : ℕ). (h, x)) (omega (arith, p.height)) ∙ ap (λ (v : model.Tree). root_of v) u_more
 
-        pub more_edited : (q' : State) → q' ≡ step (linking x made) q → Layout q.0.width made → Edited (puts s a) r (m, cs) q'
+        abbrev top : List Move
+        top = linking x (node_of (suc l) us) ∷ []
+
+        -- the calls: those of the moves below, and one write more
+        pub more_calls : (K₁ K₂ K₃ : List Op → Type 0) → ((os ps : List Op) → K₁ os → K₂ ps → K₃ (os ++ ps)) → K₁ (ops m.width ms) → K₂ (write x (encode q.0.width made) ∷ []) → K₃ (ops m.width (ms ++ top))
+        more_calls K₁ K₂ K₃ join below here =
+            subst K₃ (sym (ops_append m.width ms top))
+            (join (ops m.width ms) (ops m.width top) below (subst K₂ (ap₂ (λ (w : ℕ) (n : Block). write x (encode w n) ∷ []) (same_by ms q₀ q M.state).width M.is) here))
+
+        pub more_edited : (q' : State) → q' ≡ step (linking x made) q → Layout q.0.width made → Edited (ops m.width (ms ++ top)) (puts s a) r (m, cs) q'
         more_edited q' e' laid =
             let q₁ : State = run ms q₀ in
-            let top : List Move = linking x (node_of (suc l) us) ∷ [] in
             let z = same_by ms q₀ q₁ refl in
             let o = p.free.on (2 * suc l) (omega arith) in
             let wx : x < length q₁.1 = omega (arith, z.counts, o.1, x-is) in

@@ -34,10 +34,9 @@ given_up begin t b = 0
 given_up (puts s a) t b = one t.1.0 b
 given_up (takes s) t b = one t.1.0 b
 
--- The tree t is changed: only its new blocks are written, each once, and they were free; the new tree stands on the device;
--- and a reference to it has taken the place of the one to t, whatever other references there are.
-pub record Edited (d : Change ℕ) (t : Tree) (q q' : State) : Type 0 where
-  pub os : List Op
+-- The tree t is changed by the calls os: only its new blocks are written, each once, and they were free; the new tree stands on
+-- the device; and a reference to it has taken the place of the one to t, whatever other references there are.
+pub record Edited (os : List Op) (d : Change ℕ) (t : Tree) (q q' : State) : Type 0 where
   pub trace : q'.0 ≡ replay os q.0
   pub free : Each (WritesFree q) os
   pub once : (b : ℕ) → occ b (targets os) ≡ occ b (new_blocks d (free_blocks q.1) t)

@@ -8,7 +8,9 @@ ghost use Rattle.page.specs.View.{pair, view, entries, root_pair};
 ghost use Rattle.counts.specs.Counts.{free_blocks};
 ghost use Rattle.counts.specs.Moves.{linking, run};
 ghost use Rattle.model.specs.TreeBlocks.{Change.begin, Change.puts, bare_tree, changed_on, tree_on, root_of, GoodOn};
-ghost use Rattle.edit.specs.Plan.{placed, links};
+ghost use Rattle.device.specs.Cuts.{Op};
+ghost use Rattle.edit.specs.Plan.{placed, links, moves};
+ghost use Rattle.edit.specs.Calls.{ops};
 ghost use Rattle.edit.specs.Kids.{with_rest, Beside};
 ghost use Rattle.edit.specs.Remove.{RemoveKeeps, Removes};
 ghost use Rattle.edit.specs.Edited.{Editable, Granted, Edited};
@@ -38,13 +40,15 @@ fn link_two<D: Device>(
     lower: &Page,
     upper: &Page,
 ) -> Kids
-    requires places { Open store.old grant.old }
+    requires places { Open store.old.0 grant.old }
     requires two { 2 ≤ length grant.old }
-    requires left { 2 ≤ store.old.0.left }
+    requires left { 2 ≤ store.old.0.0.left }
     requires small { (key < 268435456) × (separator < 268435456) }
     requires low { (lower.now.level < 5) × (upper.now.level < 5) }
     ensures kids { map pair result.items ≡ (key, slice_index grant.old 0) ∷ (separator, slice_index grant.old 1) ∷ [] }
-    ensures state { store.new ≡ run (linking (slice_index grant.old 0) (view lower.now) ∷ linking (slice_index grant.old 1) (view upper.now) ∷ []) store.old }
+    ensures state { store.new.0 ≡ run (linking (slice_index grant.old 0) (view lower.now) ∷ linking (slice_index grant.old 1) (view upper.now) ∷ []) store.old.0 }
+    ensures calls { D.Device.led (ops store.old.0.0.width (linking (slice_index grant.old 0) (view lower.now) ∷ linking (slice_index grant.old 1) (view upper.now) ∷ []))
+        store.old.1 store.new.1 }
     ensures grant { grant.new ≡ drop 2 grant.old }
 {
     let left = Entry {
@@ -68,14 +72,16 @@ pub fn link_kids<D: Device>(
     made: &Page,
     rest: &Rest,
 ) -> Kids
-    requires places { Open store.old grant.old }
+    requires places { Open store.old.0 grant.old }
     requires two { 2 ≤ length grant.old }
-    requires left { 2 ≤ store.old.0.left }
+    requires left { 2 ≤ store.old.0.0.left }
     requires level { made.now.level < 5 }
     requires key { key < 268435456 }
     requires beside { Beside made.now.level rest.now }
     ensures kids { map pair result.items ≡ map_e (λ c. c.0) (placed (slice_index grant.old 0) (slice_index grant.old 1) (with_rest key rest.now (entries made.now))) }
-    ensures state { store.new ≡ run (links made.now.level (placed (slice_index grant.old 0) (slice_index grant.old 1) (with_rest key rest.now (entries made.now)))) store.old }
+    ensures state { store.new.0 ≡ run (links made.now.level (placed (slice_index grant.old 0) (slice_index grant.old 1) (with_rest key rest.now (entries made.now)))) store.old.0 }
+    ensures calls { D.Device.led (ops store.old.0.0.width (links made.now.level (placed (slice_index grant.old 0) (slice_index grant.old 1) (with_rest key rest.now (entries made.now)))))
+        store.old.1 store.new.1 }
     ensures grant { grant.new ≡ drop 2 grant.old }
 {
     match rest {
@@ -97,9 +103,11 @@ pub fn link_kids<D: Device>(
 
 // The page with a row put below it: its altered children are written and linked, the page itself is not.
 fn put_in<D: Device>(store: &mut Store<D>, grant: &mut Grant, page: &Page, row: Entry) -> Page
-    requires able { Able store.old grant.old (view page.now) row.speed }
+    requires able { Able store.old.0 grant.old (view page.now) row.speed }
     requires enough { 2 * page.now.level ≤ length grant.old }
-    ensures made { (l : ℕ) (es : List (ℕ × Pay ℕ ℕ l)) → Ready store.old grant.old (view page.now) row.speed l es → Made store.old store.new grant.old row.speed row.value l es (view result) }
+    ensures made { (l : ℕ) (es : List (ℕ × Pay ℕ ℕ l)) → Ready store.old.0 grant.old (view page.now) row.speed l es → Made store.old.0 store.new.0 grant.old row.speed row.value l es (view result) }
+    ensures calls { (l : ℕ) (es : List (ℕ × Pay ℕ ℕ l)) → Ready store.old.0 grant.old (view page.now) row.speed l es
+        → D.Device.led (ops store.old.0.0.width (moves grant.old row.speed row.value l es)) store.old.1 store.new.1 }
     ensures grant { grant.new ≡ drop (2 * page.now.level) grant.old }
 {
     if page.level == 0 {
@@ -116,12 +124,13 @@ fn put_in<D: Device>(store: &mut Store<D>, grant: &mut Grant, page: &Page, row: 
 
 // Puts a row into a tree: the tree that results is held in its place. A full root is split, and gets a new root above.
 pub fn put_tree<D: Device>(store: &mut Store<D>, root: Root, row: Entry, mut grant: Grant) -> Root
-    requires editable { Editable store.old (root_pair root) }
-    requires granted { Granted (2 * root.height + 1) store.old grant }
+    requires editable { Editable store.old.0 (root_pair root) }
+    requires granted { Granted (2 * root.height + 1) store.old.0 grant }
     requires row { (row.speed < 10000) × (row.value ≤ 18000) }
-    ensures root { root_pair result ≡ root_of (changed_on ℕ (puts row.speed row.value) (free_blocks store.old.1) (tree_on store.old.0 (root_pair root))) }
-    ensures edited { Edited (puts row.speed row.value) (tree_on store.old.0 (root_pair root)) store.old store.new }
-    ensures good { GoodOn store.new.0 (root_pair result) }
+    ensures root { root_pair result ≡ root_of (changed_on ℕ (puts row.speed row.value) (free_blocks store.old.0.1) (tree_on store.old.0.0 (root_pair root))) }
+    ensures edited { (os : List Op) × D.Device.led os store.old.1 store.new.1
+        × Edited os (puts row.speed row.value) (tree_on store.old.0.0 (root_pair root)) store.old.0 store.new.0 }
+    ensures good { GoodOn store.new.0.0 (root_pair result) }
 {
     let above = Page::new(
         root.height,
@@ -150,10 +159,10 @@ pub fn put_tree<D: Device>(store: &mut Store<D>, root: Root, row: Entry, mut gra
 
 // Makes a tree of one leaf with no row, and holds it.
 pub fn create_tree<D: Device>(store: &mut Store<D>, mut grant: Grant) -> Root
-    requires granted { Granted 1 store.old grant }
-    ensures root { root_pair result ≡ root_of (changed_on ℕ begin (free_blocks store.old.1) bare_tree) }
-    ensures edited { Edited begin bare_tree store.old store.new }
-    ensures good { GoodOn store.new.0 (root_pair result) }
+    requires granted { Granted 1 store.old.0 grant }
+    ensures root { root_pair result ≡ root_of (changed_on ℕ begin (free_blocks store.old.0.1) bare_tree) }
+    ensures edited { (os : List Op) × D.Device.led os store.old.1 store.new.1 × Edited os begin bare_tree store.old.0 store.new.0 }
+    ensures good { GoodOn store.new.0.0 (root_pair result) }
 {
     let block = grant.take();
     grant.end();

@@ -1,6 +1,7 @@
 -- What mount promises.
 use Rattle.std.specs.Prelude.{◌≡◌, ℕ, suc, ◌%◌, false, length, replicate, Ok, Err}
 use Rattle.device.specs.Meaning.{Meaning, Lawful, words, written, blocks_of, current_at}
+use Rattle.device.specs.Cuts.{Op, Op.write}
 use Rattle.page.specs.Block.{block_at}
 use Rattle.page.specs.Slot.{Table, slot_words, SlotFits}
 use Rattle.counts.specs.Counts.{Counted}
@@ -15,6 +16,10 @@ use Rattle.mount.specs.Due.{Usable}
 -- slot x written to the block of its parity
 abbrev pub with_slot : Meaning → ℕ × Table → Meaning
 with_slot m x = written m (x.0 % 2) (slot_words m.width x.0 x.1)
+
+-- the device call that writes it, at width w
+abbrev pub slot_write : ℕ → ℕ × Table → Op
+slot_write w x = write (x.0 % 2) (slot_words w x.0 x.1)
 
 -- the block of slot x's parity holds its words; its generation, heights and roots are in range
 pub record Holds (m : Meaning) (x : ℕ × Table) : Type 0 where

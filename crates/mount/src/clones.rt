@@ -38,11 +38,12 @@ fn root_due(root: Root, clone: u32) -> Due
 
 // Walks the tree of a clone, if it is there, and counts its root for the working and for the committed place.
 fn visit<D: Device>(store: &mut Store<D>, place: Option<Root>, clone: u32) -> Result<(), Refusal>
-    requires rooted { rooted (blocks_of store.old.0) (root_of place) ≡ true }
-    requires ready { Ready store.old }
-    ensures kept { store.new.0 ≡ store.old.0 }
-    ensures answer { result ≡ place_walk store.old.0 clone (root_of place) }
-    ensures counts { OnOk result (store.new.1 ≡ count_at store.old.0 (root_of place) store.old.1) }
+    requires rooted { rooted (blocks_of store.old.0.0) (root_of place) ≡ true }
+    requires ready { Ready store.old.0 }
+    ensures kept { store.new.0.0 ≡ store.old.0.0 }
+    ensures calls { D.Device.led [] store.old.1 store.new.1 }
+    ensures answer { result ≡ place_walk store.old.0.0 clone (root_of place) }
+    ensures counts { OnOk result (store.new.0.1 ≡ count_at store.old.0.0 (root_of place) store.old.0.1) }
 {
     let Some(root) = place else {
         return Ok(());
@@ -54,11 +55,12 @@ fn visit<D: Device>(store: &mut Store<D>, place: Option<Root>, clone: u32) -> Re
 
 // Walks the trees of all clones, ascending, and counts their references.
 pub fn walk_clones<D: Device>(store: &mut Store<D>, slot: &Slot) -> Result<(), Refusal>
-    requires rooted { every (rooted (blocks_of store.old.0)) (map root_of slot.now.places) ≡ true }
-    requires none { Counting store.old [] }
-    ensures kept { store.new.0 ≡ store.old.0 }
-    ensures answer { result ≡ table_walk store.old.0 0 (map root_of slot.now.places) }
-    ensures counts { OnOk result (Counting store.new (roots_of (map root_of slot.now.places))) }
+    requires rooted { every (rooted (blocks_of store.old.0.0)) (map root_of slot.now.places) ≡ true }
+    requires none { Counting store.old.0 [] }
+    ensures kept { store.new.0.0 ≡ store.old.0.0 }
+    ensures calls { D.Device.led [] store.old.1 store.new.1 }
+    ensures answer { result ≡ table_walk store.old.0.0 0 (map root_of slot.now.places) }
+    ensures counts { OnOk result (Counting store.new.0 (roots_of (map root_of slot.now.places))) }
 {
     for (clone, place) in slot.places.iter().enumerate() {
         visit(store, *place, clone as u32)?;

@@ -1,8 +1,10 @@
 // Formatting: two slots of no clones, of generations 0 and 1.
-ghost use Rattle.std.specs.Prelude.{◌≡◌, ℕ, ◌≤◌, true, MatchResult};
+ghost use Rattle.std.specs.Prelude.{◌≡◌, ℕ, ◌≤◌, true, [], ◌∷◌, MatchResult};
 ghost use Rattle.device.specs.Meaning.{Meaning, written};
 ghost use Rattle.page.specs.Slot.{slot_words};
 ghost use Rattle.model.specs.Plain.{blank};
+ghost use Rattle.device.specs.Cuts.{Op.write};
+ghost use Rattle.model.specs.Onward.{formatting};
 ghost use Rattle.mount.specs.Due.{Usable};
 ghost use Rattle.mount.specs.Formats.{Made, Unmade};
 
@@ -17,7 +19,8 @@ fn write_empty<D: Device>(device: &mut D, generation: u32)
     requires usable { Usable (D.Device.meaning device.old) }
     requires left { 1 ≤ (D.Device.meaning device.old).left }
     requires low { generation ≤ 1 }
-    ensures { D.Device.meaning device.new ≡ written (D.Device.meaning device.old) generation (slot_words (D.Device.meaning device.old).width generation blank) }
+    ensures after { D.Device.meaning device.new ≡ written (D.Device.meaning device.old) generation (slot_words (D.Device.meaning device.old).width generation blank) }
+    ensures calls { D.Device.led (write generation (slot_words (D.Device.meaning device.old).width generation blank) ∷ []) device.old device.new }
 {
     let slot = Slot {
         generation,
@@ -28,7 +31,8 @@ fn write_empty<D: Device>(device: &mut D, generation: u32)
 
 // Makes an empty volume of generation 1 on a device, or gives the device back with the reason why it cannot.
 pub fn format_device<D: Device>(mut device: D) -> Result<D, (D, Refusal)>
-    ensures { MatchResult result (λ d. Made (D.Device.meaning device) (D.Device.meaning d)) (λ e. Unmade (D.Device.meaning device) (D.Device.meaning e.0) e.1) }
+    ensures format { MatchResult result (λ d. Made (D.Device.meaning device) (D.Device.meaning d)) (λ e. Unmade (D.Device.meaning device) (D.Device.meaning e.0) e.1) }
+    ensures calls { MatchResult result (λ d. D.Device.led (formatting (D.Device.meaning device).width) device d) (λ e. e.0 ≡ device) }
 {
     if !is_fitting(device.blocks(), device.width()) {
         return Err((device, Refusal::Shape));

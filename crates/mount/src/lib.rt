@@ -1,7 +1,7 @@
 // Mounting: which images are a volume, and the counts of references that a mounted one has.
 #![tactic(auto)]
 
-ghost use Rattle.std.specs.Prelude.{◌≡◌, Ok, Err, MatchResult};
+ghost use Rattle.std.specs.Prelude.{◌≡◌, [], Ok, Err, MatchResult};
 ghost use Rattle.page.specs.View.{slot_of};
 ghost use Rattle.model.specs.Reach.{roots_of};
 ghost use Rattle.model.specs.World.{sizes, found};
@@ -55,9 +55,10 @@ pub fn no_counts<D: Device>(device: &D) -> Result<Counts, Refusal>
 
 // Finds the slot that is used, walks the trees of its clones, and counts their references.
 fn count_clones<D: Device>(store: &mut Store<D>) -> Result<Slot, Refusal>
-    requires { Blank store.old }
-    ensures kept { store.new.0 ≡ store.old.0 }
-    ensures answer { MatchResult result (λ s. (found store.old.0 ≡ Ok (slot_of s)) × Counting store.new (roots_of (slot_of s).1)) (λ e. found store.old.0 ≡ Err e) }
+    requires { Blank store.old.0 }
+    ensures kept { store.new.0.0 ≡ store.old.0.0 }
+    ensures calls { D.Device.led [] store.old.1 store.new.1 }
+    ensures answer { MatchResult result (λ s. (found store.old.0.0 ≡ Ok (slot_of s)) × Counting store.new.0 (roots_of (slot_of s).1)) (λ e. found store.old.0.0 ≡ Err e) }
 {
     let slot = read_table(store).ok_or(Refusal::NoVolume)?;
     walk_clones(store, &slot)?;
@@ -67,8 +68,9 @@ fn count_clones<D: Device>(store: &mut Store<D>) -> Result<Slot, Refusal>
 // Mounts the volume that a device holds, with counts at hand, or gives the device back with the reason why it holds none.
 pub fn mount_over<D: Device>(device: D, counts: Counts) -> Result<Mounted<D>, (D, Refusal)>
     requires { Blank (D.Device.meaning device, counts.of.items) }
-    ensures kept { MatchResult result (λ v. v.store.0 ≡ D.Device.meaning device) (λ e. D.Device.meaning e.0 ≡ D.Device.meaning device) }
-    ensures answer { MatchResult result (λ v. Accepted v.store (slot_of v.slot)) (λ e. Off (D.Device.meaning device) e.1) }
+    ensures kept { MatchResult result (λ v. v.store.0.0 ≡ D.Device.meaning device) (λ e. D.Device.meaning e.0 ≡ D.Device.meaning device) }
+    ensures calls { MatchResult result (λ v. D.Device.led [] device v.store.1) (λ e. D.Device.led [] device e.0) }
+    ensures answer { MatchResult result (λ v. Accepted v.store.0 (slot_of v.slot)) (λ e. Off (D.Device.meaning device) e.1) }
 {
     let mut store = Store::new(device, counts);
     match count_clones(&mut store) {
@@ -82,8 +84,9 @@ pub fn mount_over<D: Device>(device: D, counts: Counts) -> Result<Mounted<D>, (D
 
 // Mounts the volume that a device holds, or gives the device back with the reason why it holds none.
 pub fn mount_store<D: Device>(device: D) -> Result<Mounted<D>, (D, Refusal)>
-    ensures kept { MatchResult result (λ v. v.store.0 ≡ D.Device.meaning device) (λ e. D.Device.meaning e.0 ≡ D.Device.meaning device) }
-    ensures answer { MatchResult result (λ v. Accepted v.store (slot_of v.slot)) (λ e. Off (D.Device.meaning device) e.1) }
+    ensures kept { MatchResult result (λ v. v.store.0.0 ≡ D.Device.meaning device) (λ e. D.Device.meaning e.0 ≡ D.Device.meaning device) }
+    ensures calls { MatchResult result (λ v. D.Device.led [] device v.store.1) (λ e. D.Device.led [] device e.0) }
+    ensures answer { MatchResult result (λ v. Accepted v.store.0 (slot_of v.slot)) (λ e. Off (D.Device.meaning device) e.1) }
 {
     match no_counts(&device) {
         Ok(counts) => mount_over(device, counts),

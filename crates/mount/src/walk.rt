@@ -113,10 +113,11 @@ fn is_well_made(page: &PageWords, due: Due, blocks: u32) -> bool
 
 // Reads the page of a block, if it keeps the layout where it is due.
 fn load<D: Device>(store: &mut Store<D>, due: Due, page: &mut PageWords) -> Result<(), Refusal>
-    requires { due.block < blocks_of store.old.0 }
-    ensures kept { store.new ≡ store.old }
-    ensures answer { MatchResult result (λ _. Loaded store.old.0 due page.new) (λ e. Err e ≡ passes due.clone (own_fault store.old.0 due)) }
-    ensures shape { Shaped store.old }
+    requires { due.block < blocks_of store.old.0.0 }
+    ensures kept { store.new.0 ≡ store.old.0 }
+    ensures calls { D.Device.led [] store.old.1 store.new.1 }
+    ensures answer { MatchResult result (λ _. Loaded store.old.0.0 due page.new) (λ e. Err e ≡ passes due.clone (own_fault store.old.0.0 due)) }
+    ensures shape { Shaped store.old.0 }
 {
     let Due { clone, block, .. } = due;
     let blocks = store.blocks();
@@ -134,11 +135,12 @@ fn load<D: Device>(store: &mut Store<D>, due: Due, page: &mut PageWords) -> Resu
 
 // A block is met, by a reference that counts or by one that does not; whether it counts and is the first.
 fn meet<D: Device>(store: &mut Store<D>, block: u32, counting: bool) -> bool
-    requires within { block < blocks_of store.old.0 }
-    requires small { counting ≡ true → slice_index store.old.1 block < 65535 }
-    ensures first { result ≡ (counting && slice_index store.old.1 block == 0) }
-    ensures kept { store.new.0 ≡ store.old.0 }
-    ensures counts { store.new.1 ≡ (if counting then retained block store.old.1 else store.old.1) }
+    requires within { block < blocks_of store.old.0.0 }
+    requires small { counting ≡ true → slice_index store.old.0.1 block < 65535 }
+    ensures first { result ≡ (counting && slice_index store.old.0.1 block == 0) }
+    ensures kept { store.new.0.0 ≡ store.old.0.0 }
+    ensures device { store.new.1 ≡ store.old.1 }
+    ensures counts { store.new.0.1 ≡ (if counting then retained block store.old.0.1 else store.old.0.1) }
 {
     counting && store.retain(block)
 }
@@ -146,13 +148,14 @@ fn meet<D: Device>(store: &mut Store<D>, block: u32, counting: bool) -> bool
 // Walks the tree at a block: each block before its children, left to right.
 // If the reference by which the walk came counts, it is counted, and so are those of blocks met for the first time.
 pub fn walk<D: Device>(store: &mut Store<D>, due: Due, counting: bool) -> Result<(), Refusal>
-    requires within { due.block < blocks_of store.old.0 }
+    requires within { due.block < blocks_of store.old.0.0 }
     requires low { due.level < 5 }
-    requires room { counting ≡ true → Room store.old (due.block ∷ []) }
-    ensures kept { store.new.0 ≡ store.old.0 }
-    ensures answer { result ≡ passes due.clone (first_fault store.old.0 due) }
-    ensures counts { OnOk result (store.new.1 ≡ (if counting then tallied store.old.0 due.level due.block store.old.1 else store.old.1)) }
-    ensures shape { Shaped store.old }
+    requires room { counting ≡ true → Room store.old.0 (due.block ∷ []) }
+    ensures kept { store.new.0.0 ≡ store.old.0.0 }
+    ensures calls { D.Device.led [] store.old.1 store.new.1 }
+    ensures answer { result ≡ passes due.clone (first_fault store.old.0.0 due) }
+    ensures counts { OnOk result (store.new.0.1 ≡ (if counting then tallied store.old.0.0 due.level due.block store.old.0.1 else store.old.0.1)) }
+    ensures shape { Shaped store.old.0 }
 {
     let mut page = PageWords::empty();
     load(store, due, &mut page)?;

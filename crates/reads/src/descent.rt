@@ -1,5 +1,5 @@
 // The way down to a speed.
-ghost use Rattle.std.specs.Prelude.{◌≡◌, ℕ, suc, ◌<◌, length};
+ghost use Rattle.std.specs.Prelude.{◌≡◌, ℕ, suc, ◌<◌, length, []};
 ghost use Rattle.device.specs.Meaning.{current_at};
 ghost use Rattle.reads.specs.Sound.{SoundAt};
 ghost use Rattle.reads.specs.Descent.{child, child_before, Found};
@@ -44,9 +44,10 @@ pub fn descend<D: Device>(
     speed: u32,
     page: &mut PageWords,
 ) -> Sides
-    requires { SoundAt (current_at store.old.0) block }
-    ensures kept { store.new ≡ store.old }
-    ensures found { Found (current_at store.old.0) block speed page.new.entries result.left result.right }
+    requires { SoundAt (current_at store.old.0.0) block }
+    ensures kept { store.new.0 ≡ store.old.0 }
+    ensures calls { D.Device.led [] store.old.1 store.new.1 }
+    ensures found { Found (current_at store.old.0.0) block speed page.new.entries result.left result.right }
 {
     store.load(block, page);
     let mut left = None;

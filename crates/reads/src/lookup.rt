@@ -1,5 +1,5 @@
 // The angle of a row, and the angle at a speed.
-ghost use Rattle.std.specs.Prelude.{◌≡◌};
+ghost use Rattle.std.specs.Prelude.{◌≡◌, []};
 ghost use Rattle.device.specs.Meaning.{current_at};
 ghost use Rattle.table.specs.Rows.{angle_of};
 ghost use Rattle.table.specs.Angles.{angle_at};
@@ -22,9 +22,10 @@ use table::{Around, angle_by, stored_angle};
 
 // The angle of the row of a speed, if there is one. Reads one block a level.
 pub fn get<D: Device>(store: &mut Store<D>, root: Root, speed: u32) -> Option<i32>
-    requires { GoodOn store.old.0 (root_pair root) }
-    ensures kept { store.new ≡ store.old }
-    ensures answer { result ≡ look speed (rows_on store.old.0 (root_pair root)) }
+    requires { GoodOn store.old.0.0 (root_pair root) }
+    ensures kept { store.new.0 ≡ store.old.0 }
+    ensures calls { D.Device.led [] store.old.1 store.new.1 }
+    ensures answer { result ≡ look speed (rows_on store.old.0.0 (root_pair root)) }
 {
     let mut leaf = PageWords::empty();
     descend(store, root.block, speed, &mut leaf);
@@ -46,9 +47,10 @@ fn around(leaf: &PageWords, speed: u32) -> Around
 
 // Of the rows of a block, if there is one, that are all on one side of a speed: the row that is nearest to it.
 fn nearest<D: Device>(store: &mut Store<D>, block: Option<u32>, speed: u32) -> Around
-    requires { Beside (current_at store.old.0) speed block }
-    ensures kept { store.new ≡ store.old }
-    ensures nearest { StandsAround speed (map_e angle_of (rows_beside (current_at store.old.0) block)) result }
+    requires { Beside (current_at store.old.0.0) speed block }
+    ensures kept { store.new.0 ≡ store.old.0 }
+    ensures calls { D.Device.led [] store.old.1 store.new.1 }
+    ensures nearest { StandsAround speed (map_e angle_of (rows_beside (current_at store.old.0.0) block)) result }
 {
     let Some(block) = block else {
         return Around::default();
@@ -61,9 +63,10 @@ fn nearest<D: Device>(store: &mut Store<D>, block: Option<u32>, speed: u32) -> A
 // The angle at a speed, if there is a row. The leaf that covers the speed has a row on one side of it at least, so of the other
 // blocks beside the way down at most one is gone down: at most two blocks a level are read.
 pub fn at<D: Device>(store: &mut Store<D>, root: Root, speed: u32) -> Option<i32>
-    requires { GoodOn store.old.0 (root_pair root) }
-    ensures kept { store.new ≡ store.old }
-    ensures answer { result ≡ angle_at speed (rows_on store.old.0 (root_pair root)) }
+    requires { GoodOn store.old.0.0 (root_pair root) }
+    ensures kept { store.new.0 ≡ store.old.0 }
+    ensures calls { D.Device.led [] store.old.1 store.new.1 }
+    ensures answer { result ≡ angle_at speed (rows_on store.old.0.0 (root_pair root)) }
 {
     let mut leaf = PageWords::empty();
     let sides = descend(store, root.block, speed, &mut leaf);

@@ -1,5 +1,5 @@
 // Summaries, joined block by block.
-ghost use Rattle.std.specs.Prelude.{◌≡◌};
+ghost use Rattle.std.specs.Prelude.{◌≡◌, []};
 ghost use Rattle.device.specs.Meaning.{current_at};
 ghost use Rattle.tree.specs.Node.{map_e};
 ghost use Rattle.table.specs.Rows.{angle_of};
@@ -30,9 +30,10 @@ fn sum_leaf<S: Summary>(leaf: &PageWords) -> S
 
 // The summary of the rows of a block and all below it.
 fn sum_block<D: Device, S: Summary>(store: &mut Store<D>, block: u32) -> S
-    requires { SoundAt (current_at store.old.0) block }
-    ensures kept { store.new ≡ store.old }
-    ensures answer { result ≡ summary_of S.summing (map_e angle_of (rows_at (current_at store.old.0) block)) }
+    requires { SoundAt (current_at store.old.0.0) block }
+    ensures kept { store.new.0 ≡ store.old.0 }
+    ensures calls { D.Device.led [] store.old.1 store.new.1 }
+    ensures answer { result ≡ summary_of S.summing (map_e angle_of (rows_at (current_at store.old.0.0) block)) }
 {
     let mut page = PageWords::empty();
     store.load(block, &mut page);
@@ -48,9 +49,10 @@ fn sum_block<D: Device, S: Summary>(store: &mut Store<D>, block: u32) -> S
 
 // The summary of all rows, in their order. Each block is read once.
 pub fn summary<D: Device, S: Summary>(store: &mut Store<D>, root: Root) -> S
-    requires { GoodOn store.old.0 (root_pair root) }
-    ensures kept { store.new ≡ store.old }
-    ensures answer { result ≡ summary_of S.summing (rows_on store.old.0 (root_pair root)) }
+    requires { GoodOn store.old.0.0 (root_pair root) }
+    ensures kept { store.new.0 ≡ store.old.0 }
+    ensures calls { D.Device.led [] store.old.1 store.new.1 }
+    ensures answer { result ≡ summary_of S.summing (rows_on store.old.0.0 (root_pair root)) }
 {
     sum_block(store, root.block)
 }

@@ -46,11 +46,11 @@ fn leaf(first: u32, payload: u32) -> Page
 // Two leaves in blocks 2 and 3, under an index block in block 4: seven rows from 100 on of 5 degrees, and seven from 1,100 on
 // of -1 degree.
 fn plant<D: Device>(store: &mut Store<D>)
-    requires wide { Wide store.old.0 }
-    requires blocks { blocks_of store.old.0 ≡ 16 }
-    requires endless { store.old.0.left ≡ 4294967295 }
-    requires free { store.old.1 ≡ replicate 16 0 }
-    ensures { GoodOn store.new.0 (2, 4) }
+    requires wide { Wide store.old.0.0 }
+    requires blocks { blocks_of store.old.0.0 ≡ 16 }
+    requires endless { store.old.0.0.left ≡ 4294967295 }
+    requires free { store.old.0.1 ≡ replicate 16 0 }
+    ensures { GoodOn store.new.0.0 (2, 4) }
 {
     store.link(2, &leaf(100, 9_500));
     store.link(3, &leaf(1_100, 8_900));

@@ -9,6 +9,9 @@ use Rattle.page.specs.View.{view}
 use Rattle.counts.specs.Counts.{occ, Counted}
 use Rattle.counts.proofs.Opens.{recount}
 use Rattle.counts.specs.Moves.{Move, State, Shaped, run, writes, Laid}
+use Rattle.device.specs.Cuts.{Op}
+use Rattle.edit.specs.Calls.{ops}
+use Rattle.edit.proofs.Traces.{ops_append, ops_opens}
 use Rattle.edit.specs.Plan.{shallow, page, kids, Stored, placed, links}
 use Rattle.edit.specs.Kids.{with_rest}
 use Rattle.edit.specs.Able.{Open}
@@ -232,11 +235,30 @@ module _ (m : Meaning) (cs : List ℕ) (n : Block) (s l : ℕ) (es : List (ℕ �
               (laid_append m.width ms ls (subst (λ (w : ℕ). Laid w ms) w₁ M.laid) (subst (λ (w : ℕ). Laid w ls) (w₂ ∙ w₁) (subst (Laid q₂.0.width) lk laid))));
         }
 
+    -- the calls: those that make the part, and those that link what stands for the children
+    pub up_calls : (hs : List ℕ) → hs ≡ drop (2 * f.part.level) gs → (K₁ K₂ K₃ : List Op → Type 0) → ((os ps : List Op) → K₁ os → K₂ ps → K₃ (os ++ ps))
+        → K₁ (ops q₁.0.width (rem_moves gs s l S.work)) → K₂ (ops q₂.0.width (links made.level (placed (get_or hs 0 0) (get_or hs 1 0) seen))) → K₃ (ops m.width (rem_moves gs s (suc l) es))
+    up_calls hs taken K₁ K₂ K₃ join below linked =
+        let pl : placed (get_or hs 0 0) (get_or hs 1 0) seen ≡ placed X Y (map_e (shallow l) ps) = ap₂ (λ (x y : ℕ). placed x y seen) (left_is hs taken) (right_is hs taken) ∙ ap (placed X Y) flat_is in
+        let ms = rem_moves gs s l S.work in
+        let ls = links l (map_e (λ c. (c.0, shallow l c.1)) (placed X Y ps)) in
+        let lk : links made.level (placed (get_or hs 0 0) (get_or hs 1 0) seen) ≡ ls = ap₂ (λ (i : ℕ) (z : List (ℕ × (ℕ × List (ℕ × ℕ)))). links i z) made_level (pl ∙ placed_map (shallow l) X Y ps) in
+        let mv = S.moves gs (rem_n gs s l) (rem_moves gs s l) in
+        let w₁ : q₁.0.width ≡ m.width = (same_by (opens S.mid) (m, cs) q₁ F.state).width in
+        let w₂ : q₂.0.width ≡ q₁.0.width = (same_by ms q₁ q₂ M.state).width in
+        let all : ops m.width (rem_moves gs s (suc l) es) ≡ ops m.width ms ++ ops m.width ls
+        = ap (ops m.width) mv ∙ ops_append m.width (opens S.mid) (ms ++ ls) ∙ ap (λ (os : List Op). os ++ ops m.width (ms ++ ls)) (ops_opens m.width S.mid) ∙ ops_append m.width ms ls in
+        subst K₃ (sym all) (join (ops m.width ms) (ops m.width ls) (subst (λ (w : ℕ). K₁ (ops w ms)) w₁ below) (subst K₂ (ap₂ ops (w₂ ∙ w₁) lk) linked))
+
 -- where the level is not known to be above 0
 module _ (m : Meaning) (cs gs : List ℕ) (n : Block) (s : ℕ) where
   pub leaf_made : (r : Block) → n.level ≡ 0 → r.level ≡ n.level → r.entries ≡ del s n.entries → (l : ℕ) (es : List (ℕ × Pay ℕ ℕ l)) → Ready (m, cs) n s l es → Made (m, cs) (m, cs) gs s l es r
   leaf_made r z v e zero es p = record { is = ap₂ page (v ∙ z) (e ∙ ap (λ (x : Block). del s x.entries) p.is); state = refl; laid = tt }
   leaf_made r z v e (suc l) es p = absurd (omega (arith, z, ap (λ (x : Block). x.level) p.is))
+
+  pub leaf_calls : (K : List Op → Type 0) → K [] → n.level ≡ 0 → (l : ℕ) (es : List (ℕ × Pay ℕ ℕ l)) → Ready (m, cs) n s l es → K (ops m.width (rem_moves gs s l es))
+  leaf_calls K k z zero es p = k
+  leaf_calls K k z (suc l) es p = absurd (omega (arith, z, ap (λ (x : Block). x.level) p.is))
 
   pub index_able : (n.level ≡ 0 → ⊥) → Able (m, cs) n s → AbleIndex (m, cs) n s
   index_able above a = go a.l a.es a.ready
@@ -252,3 +274,8 @@ module _ (m : Meaning) (cs gs : List ℕ) (n : Block) (s : ℕ) where
       → (l : ℕ) (es : List (ℕ × Pay ℕ ℕ l)) → Ready (m, cs) n s l es → Made (m, cs) q gs s l es r
   index_made above q r h zero es p = absurd (above (ap (λ (x : Block). x.level) p.is))
   index_made above q r h (suc l) es p = h l es p
+
+  pub index_calls : (n.level ≡ 0 → ⊥) → (K : List Op → Type 0) → ((l : ℕ) (es : List (ℕ × Tree ℕ ℕ l)) → Ready (m, cs) n s (suc l) es → K (ops m.width (rem_moves gs s (suc l) es)))
+      → (l : ℕ) (es : List (ℕ × Pay ℕ ℕ l)) → Ready (m, cs) n s l es → K (ops m.width (rem_moves gs s l es))
+  index_calls above K h zero es p = absurd (above (ap (λ (x : Block). x.level) p.is))
+  index_calls above K h (suc l) es p = h l es p

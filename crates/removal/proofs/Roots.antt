@@ -7,7 +7,7 @@ use Rattle.tree.specs.Tree.{Pay, Span, Enough, rem_e, lower}
 use Rattle.tree.specs.Numbered.{beside, onward, numbers}
 use Rattle.tree.specs.Apart.{collect, its_place, places}
 use Rattle.tree.proofs.Puts.{five_high}
-use Rattle.page.specs.Block.{Block, block_at, kids_of, Layout}
+use Rattle.page.specs.Block.{Block, block_at, kids_of, encode, Layout}
 use Rattle.page.specs.Slot.{Root}
 use Rattle.counts.specs.Counts.{one, occ, Counted, free_blocks}
 use Rattle.counts.specs.Moves.{Move, opening, linking, State, step, run, writes, Laid}
@@ -17,6 +17,9 @@ use Rattle.counts.proofs.Steps.{within}
 use Rattle.model.specs.TreeBlocks as model
 use Rattle.model.specs.TreeBlocks.{Change.takes, changed_on, new_blocks, tree_at, root_of, Each, Good}
 use Rattle.model.proofs.TreeLaws.{grow_fit}
+use Rattle.device.specs.Cuts.{Op, Op.write}
+use Rattle.edit.specs.Calls.{ops}
+use Rattle.edit.proofs.Traces.{ops_append}
 use Rattle.edit.specs.Plan.{node_of, kids, Stored, shallow, placed, links}
 use Rattle.edit.specs.Kept.{Free, Stands}
 use Rattle.edit.specs.Fill.{opens}
@@ -242,7 +245,7 @@ module _ (m : Meaning) (cs gs : List ℕ) (root : Root) (s : ℕ) (r : model.Tre
         ct : Counted (block_at z₂.0) z₂.1 (λ b. one v.1.0 b + h b)
         ct = recount (λ b. occ b (kids l us) + h b) (λ b. one v.1.0 b + h b) (λ b. omega (arith, w.refers b)) stands.counted
 
-        pub way_edited : Edited (takes s) r (m, cs) q₂
+        pub way_edited : Edited (ops m.width ms) (takes s) r (m, cs) q₂
         way_edited =
             edited_by m cs (takes s) r h p.counted v (opening root.1 ∷ ms) (sym u_is) each (tt, subst (λ w. Laid w ms) same₁.width M.laid)
             (λ b. sym (aimed b) ∙ sym (way_places pick b l us' (omega (arith, high, made_level)) (omega (arith, n, made_length, same_length))))
@@ -278,9 +281,17 @@ module _ (m : Meaning) (cs gs : List ℕ) (root : Root) (s : ℕ) (r : model.Tre
         pub kept_root : (root.0, y) ≡ root_of u
         kept_root = ap (λ (i : ℕ). (i, y)) (sym p.height) ∙ ap (λ (t : model.Tree). root_of t) kept
 
-        pub kept_edited : (q₃ : State) → q₃ ≡ step (linking y made) q₂ → Layout q₂.0.width made → Edited (takes s) r (m, cs) q₃
+        abbrev top : List Move
+        top = linking y (node_of l us) ∷ []
+
+        -- the calls: those below the root, and one write more
+        pub kept_calls : (K₁ K₂ K₃ : List Op → Type 0) → ((os ps : List Op) → K₁ os → K₂ ps → K₃ (os ++ ps)) → K₁ (ops m.width ms) → K₂ (write y (encode q₂.0.width made) ∷ []) → K₃ (ops m.width (ms ++ top))
+        kept_calls K₁ K₂ K₃ join below here =
+            subst K₃ (sym (ops_append m.width ms top))
+            (join (ops m.width ms) (ops m.width top) below (subst K₂ (ap₂ (λ (w : ℕ) (n : Block). write y (encode w n) ∷ []) (same₂.width ∙ same₁.width) M.is) here))
+
+        pub kept_edited : (q₃ : State) → q₃ ≡ step (linking y made) q₂ → Layout q₂.0.width made → Edited (ops m.width (ms ++ top)) (takes s) r (m, cs) q₃
         kept_edited q₃ e₃ laid =
-            let top : List Move = linking y (node_of l us) ∷ [] in
             let vs : List Move = opening root.1 ∷ (ms ++ top) in
             let o = p.free.on (2 * l) (omega arith) in
             let to : q₃ ≡ step (linking y (node_of l us)) z₂ = e₃ ∙ ap (λ (n : Block). step (linking y n) q₂) M.is ∙ ap (step (linking y (node_of l us))) end in
@@ -301,8 +312,8 @@ module _ (m : Meaning) (cs gs : List ℕ) (root : Root) (s : ℕ) (r : model.Tre
             q₃ (to ∙ sym all)
 
 -- the new tree is sound
-pub good_remove : (m : Meaning) (cs gs : List ℕ) (root : Root) (s : ℕ) → Editable (m, cs) root → Granted (2 * root.0 + 1) (m, cs) gs → s < 10000 → (m' : Meaning) (cs' : List ℕ) (r : Root)
-    → r ≡ root_of (changed_on ℕ (takes s) (free_blocks cs) (tree_at (current_at m) root)) → Edited (takes s) (tree_at (current_at m) root) (m, cs) (m', cs') → Good (blocks_of m') (current_at m') r
+pub good_remove : {os : List Op} (m : Meaning) (cs gs : List ℕ) (root : Root) (s : ℕ) → Editable (m, cs) root → Granted (2 * root.0 + 1) (m, cs) gs → s < 10000 → (m' : Meaning) (cs' : List ℕ) (r : Root)
+    → r ≡ root_of (changed_on ℕ (takes s) (free_blocks cs) (tree_at (current_at m) root)) → Edited os (takes s) (tree_at (current_at m) root) (m, cs) (m', cs') → Good (blocks_of m') (current_at m') r
 good_remove m cs gs root s E G sp m' cs' r e D =
     let t : model.Tree = tree_at (current_at m) root in
     let hi = (rooted m cs gs root s E G sp).height in

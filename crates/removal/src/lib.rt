@@ -1,14 +1,17 @@
 // A row removed from a tree on counted blocks.
 #![tactic(auto)]
 
-ghost use Rattle.std.specs.Prelude.{◌≡◌, ℕ, suc, ◌+◌, ◌*◌, ◌<◌, ◌≤◌, List, ◌++◌, length, take, drop, slice_index};
+ghost use Rattle.std.specs.Prelude.{◌≡◌, ℕ, suc, ◌+◌, ◌*◌, ◌<◌, ◌≤◌, List, [], ◌++◌, length, take, drop, slice_index};
 ghost use Rattle.tree.specs.Node.{map_e};
 ghost use Rattle.tree.specs.Tree.{Pay, Tree};
 ghost use Rattle.page.specs.View.{view, entries, root_pair};
 ghost use Rattle.counts.specs.Counts.{free_blocks};
 ghost use Rattle.counts.specs.Moves.{run, Shaped};
 ghost use Rattle.model.specs.TreeBlocks.{Change.takes, changed_on, tree_on, root_of, GoodOn};
+ghost use Rattle.device.specs.Cuts.{Op};
 ghost use Rattle.edit.specs.Plan.{placed, links};
+ghost use Rattle.edit.specs.Remove.{rem_moves};
+ghost use Rattle.edit.specs.Calls.{ops};
 ghost use Rattle.edit.specs.Kids.{Beside};
 ghost use Rattle.edit.specs.Able.{Open};
 ghost use Rattle.edit.specs.Edited.{Editable, Granted, Edited};
@@ -28,11 +31,12 @@ const FEWEST: usize = 7;
 
 // The child at i opened, with one entry more than it must have: a short one takes from its right neighbour.
 fn fill_right<D: Device>(store: &mut Store<D>, page: &Page, i: usize, speed: u32) -> Filled
-    requires able { AbleIndex store.old (view page.now) speed }
+    requires able { AbleIndex store.old.0 (view page.now) speed }
     requires at { At (view page.now) speed i }
     requires more { suc i < length page.now.entries.items }
-    ensures filling { (l : ℕ) (es : List (ℕ × Tree ℕ ℕ l)) → Ready store.old (view page.now) speed (suc l) es → Filling store.old store.new speed l es result }
-    ensures shape { Shaped store.old }
+    ensures filling { (l : ℕ) (es : List (ℕ × Tree ℕ ℕ l)) → Ready store.old.0 (view page.now) speed (suc l) es → Filling store.old.0 store.new.0 speed l es result }
+    ensures calls { D.Device.led [] store.old.1 store.new.1 }
+    ensures shape { Shaped store.old.0 }
 {
     let child = store.open(page.entries[i].value);
     if child.entries.len() != FEWEST {
@@ -64,11 +68,12 @@ fn fill_right<D: Device>(store: &mut Store<D>, page: &Page, i: usize, speed: u32
 
 // The same of the last child, which takes from its left neighbour, at i.
 fn fill_left<D: Device>(store: &mut Store<D>, page: &Page, i: usize, speed: u32) -> Filled
-    requires able { AbleIndex store.old (view page.now) speed }
+    requires able { AbleIndex store.old.0 (view page.now) speed }
     requires at { At (view page.now) speed (suc i) }
     requires last { length page.now.entries.items ≡ suc (suc i) }
-    ensures filling { (l : ℕ) (es : List (ℕ × Tree ℕ ℕ l)) → Ready store.old (view page.now) speed (suc l) es → Filling store.old store.new speed l es result }
-    ensures shape { Shaped store.old }
+    ensures filling { (l : ℕ) (es : List (ℕ × Tree ℕ ℕ l)) → Ready store.old.0 (view page.now) speed (suc l) es → Filling store.old.0 store.new.0 speed l es result }
+    ensures calls { D.Device.led [] store.old.1 store.new.1 }
+    ensures shape { Shaped store.old.0 }
 {
     let last = page.entries[i + 1].value;
     let child = store.read_page(last);
@@ -104,10 +109,11 @@ fn fill_left<D: Device>(store: &mut Store<D>, page: &Page, i: usize, speed: u32)
 
 // The child at i filled.
 fn fill<D: Device>(store: &mut Store<D>, page: &Page, i: usize, speed: u32) -> Filled
-    requires able { AbleIndex store.old (view page.now) speed }
+    requires able { AbleIndex store.old.0 (view page.now) speed }
     requires at { At (view page.now) speed i }
-    ensures filling { (l : ℕ) (es : List (ℕ × Tree ℕ ℕ l)) → Ready store.old (view page.now) speed (suc l) es → Filling store.old store.new speed l es result }
-    ensures shape { Shaped store.old }
+    ensures filling { (l : ℕ) (es : List (ℕ × Tree ℕ ℕ l)) → Ready store.old.0 (view page.now) speed (suc l) es → Filling store.old.0 store.new.0 speed l es result }
+    ensures calls { D.Device.led [] store.old.1 store.new.1 }
+    ensures shape { Shaped store.old.0 }
 {
     if i + 1 < page.entries.len() {
         fill_right(store, page, i, speed)
@@ -124,16 +130,18 @@ fn link_parts<D: Device>(
     filled: &Filled,
     made: &Page,
 ) -> Page
-    requires places { Open store.old grant.old }
+    requires places { Open store.old.0 grant.old }
     requires two { 2 ≤ length grant.old }
-    requires left { 2 ≤ store.old.0.left }
+    requires left { 2 ≤ store.old.0.0.left }
     requires level { made.now.level < 5 }
     requires beside { Beside made.now.level filled.now.rest }
     requires fits { Fits filled.now }
     requires within { filled.now.end ≤ length page.now.entries.items }
     ensures level { result.level ≡ page.now.level }
     ensures these { entries result ≡ take filled.now.at (entries page.now) ++ (map_e (λ c. c.0) (placed (slice_index grant.old 0) (slice_index grant.old 1) (parts_of page.now filled.now made.now)) ++ drop filled.now.end (entries page.now)) }
-    ensures state { store.new ≡ run (links made.now.level (placed (slice_index grant.old 0) (slice_index grant.old 1) (parts_of page.now filled.now made.now))) store.old }
+    ensures state { store.new.0 ≡ run (links made.now.level (placed (slice_index grant.old 0) (slice_index grant.old 1) (parts_of page.now filled.now made.now))) store.old.0 }
+    ensures calls { D.Device.led (ops store.old.0.0.width (links made.now.level (placed (slice_index grant.old 0) (slice_index grant.old 1) (parts_of page.now filled.now made.now))))
+        store.old.1 store.new.1 }
     ensures grant { grant.new ≡ drop 2 grant.old }
 {
     let key = page.entries[filled.at].speed;
@@ -143,10 +151,12 @@ fn link_parts<D: Device>(
 
 // The page with a speed removed below it: its altered children are written and linked, the page itself is not.
 fn remove_in<D: Device>(store: &mut Store<D>, grant: &mut Grant, page: &Page, speed: u32) -> Page
-    requires able { Able store.old (view page.now) speed }
-    requires room { Room store.old grant.old page.now.level }
+    requires able { Able store.old.0 (view page.now) speed }
+    requires room { Room store.old.0 grant.old page.now.level }
     requires enough { 2 * page.now.level ≤ length grant.old }
-    ensures made { (l : ℕ) (es : List (ℕ × Pay ℕ ℕ l)) → Ready store.old (view page.now) speed l es → Made store.old store.new grant.old speed l es (view result) }
+    ensures made { (l : ℕ) (es : List (ℕ × Pay ℕ ℕ l)) → Ready store.old.0 (view page.now) speed l es → Made store.old.0 store.new.0 grant.old speed l es (view result) }
+    ensures calls { (l : ℕ) (es : List (ℕ × Pay ℕ ℕ l)) → Ready store.old.0 (view page.now) speed l es
+        → D.Device.led (ops store.old.0.0.width (rem_moves grant.old speed l es)) store.old.1 store.new.1 }
     ensures grant { grant.new ≡ drop (2 * page.now.level) grant.old }
 {
     if page.level == 0 {
@@ -165,12 +175,13 @@ pub fn remove_tree<D: Device>(
     speed: u32,
     mut grant: Grant,
 ) -> Root
-    requires editable { Editable store.old (root_pair root) }
-    requires granted { Granted (2 * root.height + 1) store.old grant }
+    requires editable { Editable store.old.0 (root_pair root) }
+    requires granted { Granted (2 * root.height + 1) store.old.0 grant }
     requires speed { speed < 10000 }
-    ensures root { root_pair result ≡ root_of (changed_on ℕ (takes speed) (free_blocks store.old.1) (tree_on store.old.0 (root_pair root))) }
-    ensures edited { Edited (takes speed) (tree_on store.old.0 (root_pair root)) store.old store.new }
-    ensures good { GoodOn store.new.0 (root_pair result) }
+    ensures root { root_pair result ≡ root_of (changed_on ℕ (takes speed) (free_blocks store.old.0.1) (tree_on store.old.0.0 (root_pair root))) }
+    ensures edited { (os : List Op) × D.Device.led os store.old.1 store.new.1
+        × Edited os (takes speed) (tree_on store.old.0.0 (root_pair root)) store.old.0 store.new.0 }
+    ensures good { GoodOn store.new.0.0 (root_pair result) }
 {
     let page = store.open(root.block);
     let made = remove_in(store, &mut grant, &page, speed);

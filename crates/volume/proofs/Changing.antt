@@ -79,7 +79,7 @@ module _ (t : Tables) (m : Meaning) (cs : List ℕ) (S : Kept t (m, cs)) where
 
   -- one place gets a changed tree
   module _ (n : ℕ) (h : n < 24) (d : Change ℕ) (old : (b : ℕ) → rootings t b ≡ given_up d (source (model_of t m) n d) b + others t n b)
-      (m' : Meaning) (cs' : List ℕ) (r : Root) (E : Edited d (source (model_of t m) n d) (m, cs) (m', cs'))
+      (m' : Meaning) (cs' : List ℕ) (r : Root) {os : List Op} (E : Edited os d (source (model_of t m) n d) (m, cs) (m', cs'))
       (at : r ≡ root_of (changed_on ℕ d (free_blocks cs) (source (model_of t m) n d))) (G : Good (blocks_of m') (current_at m') r) where
     abbrev u : Tree
     u = changed_on ℕ d (free_blocks cs) (source (model_of t m) n d)
@@ -87,10 +87,10 @@ module _ (t : Tables) (m : Meaning) (cs : List ℕ) (S : Kept t (m, cs)) where
     new_is : new_tree (model_of t m) n d ≡ u
     new_is = ap (λ f. changed_on ℕ d f (source (model_of t m) n d)) free_is
 
-    frees : Each (FreeWrite t m) E.os
-    frees = each_map (WritesFree (m, cs)) (FreeWrite t m) free_write E.os E.free
+    frees : Each (FreeWrite t m) os
+    frees = each_map (WritesFree (m, cs)) (FreeWrite t m) free_write os E.free
 
-    pub changed_there : Changed t m n d E.os (mounted (placed t (set t.working n (Some r)))) m'
+    pub changed_there : Changed t m n d os (mounted (placed t (set t.working n (Some r)))) m'
     changed_there = (
       frees,
       (λ b. E.once b ∙ ap (λ f. occ b (new_blocks d f (source (model_of t m) n d))) (sym free_is)),
@@ -99,17 +99,17 @@ module _ (t : Tables) (m : Meaning) (cs : List ℕ) (S : Kept t (m, cs)) where
     )
 
     blocks_same : blocks_of m' ≡ blocks_of m
-    blocks_same = ap blocks_of E.trace ∙ blocks_replay E.os m
+    blocks_same = ap blocks_of E.trace ∙ blocks_replay os m
 
     same : (b : ℕ) → T (elem b (used (shape t m))) → current_at m' b ≡ current_at m b
-    same b k = ap (λ (z : Meaning). current_at z b) E.trace ∙ ap (λ c. c.current) (keeps_free t m E.os frees b (elem_right b (0 ∷ 1 ∷ []) (used (shape t m)) k))
+    same b k = ap (λ (z : Meaning). current_at z b) E.trace ∙ ap (λ c. c.current) (keeps_free t m os frees b (elem_right b (0 ∷ 1 ∷ []) (used (shape t m)) k))
 
     old_good : (x : Table) → ((b : ℕ) → T (elem b (Reaches (current_at m) x)) → T (elem b (used (shape t m)))) → AllGood (Good (blocks_of m) (current_at m)) x → AllGood (Good (blocks_of m') (current_at m')) x
     old_good x i g = subst (λ k. AllGood (Good k (current_at m')) x) (sym blocks_same) (good_same (blocks_of m) (current_at m) (current_at m') x (λ b k. same b (i b k)) g)
 
     pub sound_there : Kept (placed t (set t.working n (Some r))) (m', cs')
     sound_there = record {
-      sized = ap₂ sizes blocks_same (ap (λ z. z.width) E.trace ∙ width_replay E.os m) ∙ S.sized;
+      sized = ap₂ sizes blocks_same (ap (λ z. z.width) E.trace ∙ width_replay os m) ∙ S.sized;
       working = length-set t.working n (Some r) ∙ S.working;
       committed = S.committed;
       generation = S.generation;
@@ -143,35 +143,35 @@ pub record There (t : Tables) (m : Meaning) (n : ℕ) (d : Change ℕ) (r : Root
 
 module _ (t : Tables) (m : Meaning) (cs : List ℕ) (S : Kept t (m, cs)) (n : ℕ) (h : n < 24) where
   -- a row is put into a clone's tree
-  pub put_there : (r : Root) → place t.working n ≡ Some r → (s a : ℕ) (m' : Meaning) (cs' : List ℕ) (r' : Root)
-      → Edited (puts s a) (tree_at (current_at m) r) (m, cs) (m', cs') → r' ≡ root_of (changed_on ℕ (puts s a) (free_blocks cs) (tree_at (current_at m) r)) → Good (blocks_of m') (current_at m') r'
+  pub put_there : {os : List Op} (r : Root) → place t.working n ≡ Some r → (s a : ℕ) (m' : Meaning) (cs' : List ℕ) (r' : Root)
+      → Edited os (puts s a) (tree_at (current_at m) r) (m, cs) (m', cs') → r' ≡ root_of (changed_on ℕ (puts s a) (free_blocks cs) (tree_at (current_at m) r)) → Good (blocks_of m') (current_at m') r'
       → There t m n (puts s a) r' m' cs'
-  put_there r at s a m' cs' r' E e G =
+  put_there {os} r at s a m' cs' r' E e G =
       let is : tree_at (current_at m) r ≡ source (model_of t m) n (puts s a) = sym (tree_at_lem t m cs S n r at) in
-      let E' : Edited (puts s a) (source (model_of t m) n (puts s a)) (m, cs) (m', cs') = subst (λ x. Edited (puts s a) x (m, cs) (m', cs')) is E in
+      let E' : Edited os (puts s a) (source (model_of t m) n (puts s a)) (m, cs) (m', cs') = subst (λ x. Edited os (puts s a) x (m, cs) (m', cs')) is E in
       let e' : r' ≡ root_of (changed_on ℕ (puts s a) (free_blocks cs) (source (model_of t m) n (puts s a))) = e ∙ ap (λ x. root_of (changed_on ℕ (puts s a) (free_blocks cs) x)) is in
       let old : (b : ℕ) → rootings t b ≡ given_up (puts s a) (source (model_of t m) n (puts s a)) b + others t n b
       = λ b. split_here t m cs S n r at h b ∙ ap (λ (y : ℕ). one y b + others t n b) (sym (root_block (current_at m) r) ∙ ap (λ (x : Tree). x.1.0) is) in
       record {
         kept = sound_there t m cs S n h (puts s a) old m' cs' r' E' e' G;
-        os = E'.os;
+        os = os;
         trace = E'.trace;
         effect = changed_there t m cs S n h (puts s a) old m' cs' r' E' e' G;
       }
 
   -- a row is taken out of a clone's tree
-  pub take_there : (r : Root) → place t.working n ≡ Some r → (s : ℕ) (m' : Meaning) (cs' : List ℕ) (r' : Root)
-      → Edited (takes s) (tree_at (current_at m) r) (m, cs) (m', cs') → r' ≡ root_of (changed_on ℕ (takes s) (free_blocks cs) (tree_at (current_at m) r)) → Good (blocks_of m') (current_at m') r'
+  pub take_there : {os : List Op} (r : Root) → place t.working n ≡ Some r → (s : ℕ) (m' : Meaning) (cs' : List ℕ) (r' : Root)
+      → Edited os (takes s) (tree_at (current_at m) r) (m, cs) (m', cs') → r' ≡ root_of (changed_on ℕ (takes s) (free_blocks cs) (tree_at (current_at m) r)) → Good (blocks_of m') (current_at m') r'
       → There t m n (takes s) r' m' cs'
-  take_there r at s m' cs' r' E e G =
+  take_there {os} r at s m' cs' r' E e G =
       let is : tree_at (current_at m) r ≡ source (model_of t m) n (takes s) = sym (tree_at_lem t m cs S n r at) in
-      let E' : Edited (takes s) (source (model_of t m) n (takes s)) (m, cs) (m', cs') = subst (λ x. Edited (takes s) x (m, cs) (m', cs')) is E in
+      let E' : Edited os (takes s) (source (model_of t m) n (takes s)) (m, cs) (m', cs') = subst (λ x. Edited os (takes s) x (m, cs) (m', cs')) is E in
       let e' : r' ≡ root_of (changed_on ℕ (takes s) (free_blocks cs) (source (model_of t m) n (takes s))) = e ∙ ap (λ x. root_of (changed_on ℕ (takes s) (free_blocks cs) x)) is in
       let old : (b : ℕ) → rootings t b ≡ given_up (takes s) (source (model_of t m) n (takes s)) b + others t n b
       = λ b. split_here t m cs S n r at h b ∙ ap (λ (y : ℕ). one y b + others t n b) (sym (root_block (current_at m) r) ∙ ap (λ (x : Tree). x.1.0) is) in
       record {
         kept = sound_there t m cs S n h (takes s) old m' cs' r' E' e' G;
-        os = E'.os;
+        os = os;
         trace = E'.trace;
         effect = changed_there t m cs S n h (takes s) old m' cs' r' E' e' G;
       }

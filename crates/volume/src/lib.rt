@@ -49,17 +49,17 @@ impl<D: Device> Model for Volume<D> {
 
     ghost use Rattle.volume.specs.Kept.{tables, Kept};
 
-    ghost view = { λ v. (tables v.working v.committed v.generation, v.store.0) };
+    ghost view = { λ v. (tables v.working v.committed v.generation, v.store.0.0) };
 
-    ghost invariant = { λ v. Kept (tables v.working v.committed v.generation) v.store };
+    ghost invariant = { λ v. Kept (tables v.working v.committed v.generation) v.store.0 };
 }
 
 // So many free blocks for a change of a clone; refuses where fewer are free, and where fewer writes are left.
 fn reserve<D: Device>(store: &Store<D>, clone: u32, n: u32) -> Result<Grant, Refusal>
     requires { n ≤ 11 }
     ensures { MatchResult result
-        (λ grant. (lacking_in store.now clone n ≡ None) × Granted n store.now grant)
-        (λ e. lacking_in store.now clone n ≡ Some e) }
+        (λ grant. (lacking_in store.now.0 clone n ≡ None) × Granted n store.now.0 grant)
+        (λ e. lacking_in store.now.0 clone n ≡ Some e) }
 {
     let Some(mut grant) = store.grant(n as usize) else {
         return Err(Refusal::Short);
@@ -126,8 +126,8 @@ impl<D: Device> Volume<D> {
 
     // The volume that was mounted.
     fn over(mounted: Mounted<D>) -> Volume<D>
-        requires { Accepted mounted.store (slot_of mounted.slot) }
-        ensures { result ≡ (fresh (slot_of mounted.slot), mounted.store.0) }
+        requires { Accepted mounted.store.0 (slot_of mounted.slot) }
+        ensures { result ≡ (fresh (slot_of mounted.slot), mounted.store.0.0) }
     {
         let Mounted { store, slot } = mounted;
         let Slot { generation, places } = slot;

@@ -40,9 +40,9 @@ impl<D: Device> Model for Sealed<D> {
 
 // One reference more to the root of a place, if it has one.
 fn hold<D: Device>(store: &mut Store<D>, place: Option<Root>)
-    requires { IfSome place (λ r. (r.block < blocks_of store.old.0) × (slice_index store.old.1 r.block < 65535)) }
-    ensures kept { store.new.0 ≡ store.old.0 }
-    ensures counts { store.new.1 ≡ add_all (root_in (root_of place)) store.old.1 }
+    requires { IfSome place (λ r. (r.block < blocks_of store.old.0.0) × (slice_index store.old.0.1 r.block < 65535)) }
+    ensures kept { store.new.0.0 ≡ store.old.0.0 }
+    ensures counts { store.new.0.1 ≡ add_all (root_in (root_of place)) store.old.0.1 }
 {
     if let Some(root) = place {
         store.retain(root.block);
@@ -51,10 +51,10 @@ fn hold<D: Device>(store: &mut Store<D>, place: Option<Root>)
 
 // One reference less to the root of a place, if it has one.
 fn give_up<D: Device>(store: &mut Store<D>, place: Option<Root>)
-    requires { IfSome place (λ r. (1 ≤ r.height) × Held store.old r.block (r.height - 1)) }
-    ensures kept { store.new.0 ≡ store.old.0 }
-    ensures dropped { Dropped (root_in (root_of place)) store.old store.new.1 }
-    ensures sized { length store.new.1 ≡ length store.old.1 }
+    requires { IfSome place (λ r. (1 ≤ r.height) × Held store.old.0 r.block (r.height - 1)) }
+    ensures kept { store.new.0.0 ≡ store.old.0.0 }
+    ensures dropped { Dropped (root_in (root_of place)) store.old.0 store.new.0.1 }
+    ensures sized { length store.new.0.1 ≡ length store.old.0.1 }
 {
     if let Some(root) = place {
         store.release(root.block, root.height - 1);

@@ -1,22 +1,31 @@
-use Rattle.std.proofs.Common.{◌≡◌, ℕ, suc, ◌+◌, ◌*◌, ◌<◌, ◌≤◌, List, ◌++◌, map, length, get_or, take, drop, sym, ap, ◌∙◌, subst, ap₂, add-one, arith, drop-drop}
+use Rattle.std.proofs.Common.{◌≡◌, ℕ, suc, ◌+◌, ◌*◌, ◌<◌, ◌≤◌, List, [], ◌++◌, map, length, get_or, take, drop, sym, refl, ap, ◌∙◌, subst, ap₂, add-one, arith, drop-drop}
 use Rattle.device.specs.Meaning.{Meaning}
 use Rattle.page.specs.View.{pair, view, entries}
 use Rattle.page.specs.declared.page.Entry.{Entry}
 use Rattle.page.specs.declared.page.Page.{Page}
 use Rattle.page.proofs.Pages.{entries_length, entries_at}
-use Rattle.edit.specs.Plan.{page}
+use Rattle.device.specs.Cuts.{Op}
+use Rattle.page.specs.Block.{Block}
+use Rattle.counts.specs.Moves.{Move}
+use Rattle.edit.specs.Calls.{ops}
+use Rattle.edit.specs.Plan.{page, parted, placed, links}
 use Rattle.edit.specs.Able.{Able}
-use Rattle.edit.specs.Kids.{Beside}
+use Rattle.edit.specs.Kids.{Beside, with_rest}
 use Rattle.edit.proofs.Parting.{by_parts}
 use Rattle.edit.proofs.Laying.{parts_laid}
 use Rattle.edit.proofs.Downs.{Covers}
-use Rattle.edit.proofs.Anyhow.{Parts, Linkable, leaf_made, room, first_key, owned_any, part_any, linkable, up_any}
+use Rattle.edit.proofs.Anyhow.{Parts, Linkable, leaf_made, leaf_calls, room, first_key, owned_any, part_any, linkable, up_any, up_calls}
 use Rattle.edit.proofs.+put_in.Given.{Over}
 use Rattle.edit.proofs.+put_in.Goals.{After-put_in-made}
 use Rattle.edit.proofs.+put_in.Goals as goal
 
 pub with_row-requires : goal.with_row-requires
 with_row-requires g t c = omega (arith, room _ _ _ _ _ c.requires.able, entries_length c.args.page.now)
+
+pub returns-then-page-eq0-clause-calls : goal.returns-then-page-eq0-clause-calls
+returns-then-page-eq0-clause-calls g t c =
+    let d = c.args.store.now.1 in
+    leaf_calls _ _ _ _ _ (λ (os : List Op). g.D.Device.led os d d) (g.met.D.Device.quiet d d refl refl) c.if-page-eq0.true c.args.row.value
 
 pub returns-then-page-eq0-clause-made : goal.returns-then-page-eq0-clause-made
 returns-then-page-eq0-clause-made g t c = leaf_made _ _ _ _ _ _ (view c.with_row.result) c.if-page-eq0.true c.with_row.ensures.level c.with_row.ensures.these
@@ -44,7 +53,7 @@ open-child-requires g t c =
 pub put_in-made-requires : goal.put_in-made-requires
 put_in-made-requires g t c κs within =
     let C = covers _ _ _ c.args.page.now _ _ _ _ c.if-page-eq0.false c.requires.able c.covering-i.ensures.within c.covering-i.ensures.low c.covering-i.ensures.high c.deref.ensures.0 c.index-deref-i.is in
-    let R = part_any _ _ _ _ _ _ _ C (view c.open-child.result) (view c.split-part.result.0) c.open-child.new.self
+    let R = part_any _ _ _ _ _ _ _ C (view c.open-child.result) (view c.split-part.result.0) c.open-child.new.self.0
     (record { there = c.open-child.ensures.page; level = c.split-part.ensures.level; these = c.split-part.ensures.these; state = c.open-child.ensures.state; shape = c.open-child.ensures.shape }) c.requires.able in
     (omega (arith, c.decreases, R.1), (within, (R.0, omega (arith, R.1, c.requires.enough))))
 
@@ -52,10 +61,10 @@ module _ (g : Over) (t : ℕ) (c : After-put_in-made g t) where
   C : Covers (view c.args.page.now) c.args.row.speed c.covering-i.result (pair c.index-deref-i.result)
   C = covers _ _ _ c.args.page.now _ _ _ _ c.if-page-eq0.false c.requires.able c.covering-i.ensures.within c.covering-i.ensures.low c.covering-i.ensures.high c.deref.ensures.0 c.index-deref-i.is
 
-  P : Parts c.args.store.now c.open-child.new.self c.index-deref-i.result.value c.args.row.speed (view c.open-child.result) (view c.split-part.result.0)
+  P : Parts c.args.store.now.0 c.open-child.new.self.0 c.index-deref-i.result.value c.args.row.speed (view c.open-child.result) (view c.split-part.result.0)
   P = record { there = c.open-child.ensures.page; level = c.split-part.ensures.level; these = c.split-part.ensures.these; state = c.open-child.ensures.state; shape = c.open-child.ensures.shape }
 
-  link : Linkable c.put_in-made.new.store c.put_in-made.new.grant (view c.args.page.now) (view c.open-child.result) (view c.put_in-made.result)
+  link : Linkable c.put_in-made.new.store.0 c.put_in-made.new.grant (view c.args.page.now) (view c.open-child.result) (view c.put_in-made.result)
   link = linkable _ _ _ _ _ _ _ C _ _ _ P _ _ _ c.put_in-made.ensures.made _ c.put_in-made.ensures.grant c.requires.enough c.requires.able
 
 pub link_kids-kids-requires : goal.link_kids-kids-requires
@@ -84,9 +93,28 @@ returns-clause-made g t c =
     let made = c.put_in-made.result in
     let beside = subst (λ (l : ℕ). Beside l c.split-part.result.1) (sym L.level) c.split-part.ensures.beside in
     let laid = parts_laid made c.split-part.result.1 _ _ _ _ L.wide (omega (arith, L.above, L.level, c.args.page.now.few.1)) beside in
-    up_any _ _ _ _ _ _ _ (C g t d) _ _ _ (P g t d) _ _ _ c.put_in-made.ensures.made _ c.put_in-made.ensures.grant c.link_kids-kids.new.store _ (view c.spliced.result)
+    up_any _ _ _ _ _ _ _ (C g t d) _ _ _ (P g t d) _ _ _ c.put_in-made.ensures.made _ c.put_in-made.ensures.grant c.link_kids-kids.new.store.0 _ (view c.spliced.result)
     (by_parts made.level _ _ _ _ _ _ _ _ L.level (c.split-part.ensures.parts _ (entries made)) (record { kids = c.link_kids-kids.ensures.kids; state = c.link_kids-kids.ensures.state; laid = laid }))
     (spliced c.args.page.now c.spliced.result c.covering-i.result c.link_kids-kids.result.items _ c.deref-2.ensures.0 c.spliced.ensures.level c.spliced.ensures.these)
+
+pub returns-clause-calls : goal.returns-clause-calls
+returns-clause-calls g t c =
+    let d = (goal.at.returns-clause-calls g t c).After-put_in-made in
+    let L = link g t d in
+    let K₁ : List Op → Type 0 = λ os. g.D.Device.led os c.open-child.new.self.1 c.put_in-made.new.store.1 in
+    let K₂ : List Op → Type 0 = λ os. g.D.Device.led os c.put_in-made.new.store.1 c.link_kids-kids.new.store.1 in
+    let K₃ : List Op → Type 0 = λ os. g.D.Device.led os c.args.store.now.1 c.link_kids-kids.new.store.1 in
+    let made : Block = view c.put_in-made.result in
+    let a = get_or c.put_in-made.new.grant 0 0 in
+    let b = get_or c.put_in-made.new.grant 1 0 in
+    let beside : links made.level (placed a b (with_rest c.index-deref-i.result.speed c.split-part.result.1 made.entries))
+    ≡ links (view c.open-child.result).level (placed a b (parted c.args.row.speed c.index-deref-i.result.speed (view c.open-child.result).entries made.entries))
+    = ap (λ (l : ℕ). links l (placed a b (with_rest c.index-deref-i.result.speed c.split-part.result.1 made.entries))) L.level
+    ∙ ap (λ (ps : List (ℕ × List (ℕ × ℕ))). links (view c.open-child.result).level (placed a b ps)) (c.split-part.ensures.parts _ made.entries) in
+    up_calls _ _ _ _ _ _ _ (C g t d) _ _ _ (P g t d) _ _ _ c.put_in-made.ensures.made _ c.put_in-made.ensures.grant K₁ K₂ K₃
+    (λ os ps x y. g.met.D.Device.goes_on [] (os ++ ps) _ _ _ c.open-child.ensures.calls (g.met.D.Device.goes_on os ps _ _ _ x y))
+    c.put_in-made.ensures.calls
+    (subst (λ (ms : List Move). K₂ (ops c.put_in-made.new.store.0.0.width ms)) beside c.link_kids-kids.ensures.calls)
 
 pub returns-clause-grant : goal.returns-clause-grant
 returns-clause-grant g t c =

@@ -5,10 +5,13 @@ use Rattle.page.specs.declared.page.Page.{Page}
 use Rattle.page.specs.declared.page.Entry.{Entry}
 use Rattle.page.proofs.Pages.{entries_length, entries_at}
 use Rattle.model.specs.TreeBlocks.{Tree, tree_at}
+use Rattle.device.specs.Cuts.{Op}
+use Rattle.edit.specs.Calls.{ops}
+use Rattle.edit.specs.Plan.{moves}
 use Rattle.edit.specs.Able.{Made}
 use Rattle.page.proofs.Pages.{laid_out}
 use Rattle.edit.proofs.Anyhow.{next_place}
-use Rattle.edit.proofs.Trees.{Rooted, Topmost, top_ready, top_able, many, one_small, one_root, one_edited, link_able, more_root, more_edited}
+use Rattle.edit.proofs.Trees.{Rooted, Topmost, top_ready, top_able, many, one_small, one_root, one_edited, link_able, more_root, more_calls, more_edited}
 use Rattle.edit.proofs.Editing.{whole, all_taken, rooted, good_put}
 use Rattle.edit.proofs.put_tree.Given.{Over}
 use Rattle.edit.proofs.put_tree.Goals.{After-put_in-made}
@@ -20,13 +23,16 @@ put_in-made-requires-clause-able g c =
 
 module _ (g : Over) (c : After-put_in-made g) where
   abbrev t : Tree
-  t = tree_at (current_at c.args.store.now.0) (c.args.root.height, c.args.root.block)
+  t = tree_at (current_at c.args.store.now.0.0) (c.args.root.height, c.args.root.block)
 
-  p : Rooted c.args.store.now.0 c.args.store.now.1 c.args.grant (c.args.root.height, c.args.root.block) c.args.row.speed t c.requires.editable.others
+  p : Rooted c.args.store.now.0.0 c.args.store.now.0.1 c.args.grant (c.args.root.height, c.args.root.block) c.args.row.speed t c.requires.editable.others
   p = rooted _ _ _ _ _ c.requires.editable c.requires.granted c.requires.row.0
 
-  M : Made c.args.store.now c.put_in-made.new.store c.args.grant c.args.row.speed c.args.row.value (suc t.0) ((0, t.1) ∷ []) (view c.put_in-made.result)
+  M : Made c.args.store.now.0 c.put_in-made.new.store.0 c.args.grant c.args.row.speed c.args.row.value (suc t.0) ((0, t.1) ∷ []) (view c.put_in-made.result)
   M = c.put_in-made.ensures.made _ _ (top_ready _ _ _ _ _ _ _ p (view c.new-above.result) c.new-above.ensures.level c.new-above.ensures.these)
+
+  K : g.D.Device.led (ops c.args.store.now.0.0.width (moves c.args.grant c.args.row.speed c.args.row.value (suc t.0) ((0, t.1) ∷ []))) c.args.store.now.1 c.put_in-made.new.store.1
+  K = c.put_in-made.ensures.calls _ _ (top_ready _ _ _ _ _ _ _ p (view c.new-above.result) c.new-above.ensures.level c.new-above.ensures.these)
 
   -- all blocks of the grant but one are taken
   but_one : drop 1 c.put_in-made.new.grant ≡ []
@@ -53,7 +59,7 @@ returns-then-len-eq1 g c =
     let e = only_block c.put_in-made.result _ c.index-deref-0.result n c.deref.ensures.0 in
     let at = one_root _ _ _ _ _ _ _ (p g d) _ _ _ (M g d) (entries_length c.put_in-made.result ∙ n) _ e in
     let D = one_edited _ _ _ _ _ _ _ (p g d) _ _ _ (M g d) (entries_length c.put_in-made.result ∙ n) _ e in
-    record { root = at; edited = D; good = good_put _ _ _ _ _ _ c.requires.editable c.requires.granted c.requires.row.0 c.requires.row.1 _ _ _ at D }
+    record { root = at; edited = (_, K g d, D); good = good_put _ _ _ _ _ _ c.requires.editable c.requires.granted c.requires.row.0 c.requires.row.1 _ _ _ at D }
 
 -- more entries: they go below a new root, in the last block of the grant
 pub end-requires-2 : goal.end-requires-2
@@ -66,7 +72,7 @@ module _ (g : Over) (c : After-put_in-made g) (n : length c.put_in-made.result.e
   block_is : b ≡ get_or c.args.grant (2 * suc (t g c).0) 0
   block_is = next_place c.args.grant _ (2 * c.new-above.result.level) (2 * suc (t g c).0) b rest c.put_in-made.ensures.grant e (omega (arith, c.new-above.ensures.level, (p g c).height))
 
-  able : Topmost c.put_in-made.new.store b (view c.put_in-made.result)
+  able : Topmost c.put_in-made.new.store.0 b (view c.put_in-made.result)
   able = link_able _ _ _ _ _ _ _ (p g c) _ _ _ (M g c) more b block_is c.requires.row.1
 
 pub link-requires : goal.link-requires
@@ -87,5 +93,9 @@ returns g c =
     let e = block_is g d n _ _ c.take-block.ensures in
     let L = able g d n _ _ c.take-block.ensures in
     let at = more_root _ _ _ _ _ _ _ (p g d) _ _ _ (M g d) m _ e in
-    let D = more_edited _ _ _ _ _ _ _ (p g d) _ _ _ (M g d) m _ e c.link.new.self c.link.ensures (laid_out c.put_in-made.result _ L.wide L.low) in
-    record { root = at; edited = D; good = good_put _ _ _ _ _ _ c.requires.editable c.requires.granted c.requires.row.0 c.requires.row.1 _ _ _ at D }
+    let D = more_edited _ _ _ _ _ _ _ (p g d) _ _ _ (M g d) m _ e c.link.new.self.0 c.link.ensures.state (laid_out c.put_in-made.result _ L.wide L.low) in
+    let K₁ : List Op → Type 0 = λ os. g.D.Device.led os c.args.store.now.1 c.put_in-made.new.store.1 in
+    let K₂ : List Op → Type 0 = λ os. g.D.Device.led os c.put_in-made.new.store.1 c.link.new.self.1 in
+    let K₃ : List Op → Type 0 = λ os. g.D.Device.led os c.args.store.now.1 c.link.new.self.1 in
+    let calls = more_calls _ _ _ _ _ _ _ (p g d) _ _ _ (M g d) m _ e K₁ K₂ K₃ (λ os ps x y. g.met.D.Device.goes_on os ps _ _ _ x y) (K g d) c.link.ensures.calls in
+    record { root = at; edited = (_, calls, D); good = good_put _ _ _ _ _ _ c.requires.editable c.requires.granted c.requires.row.0 c.requires.row.1 _ _ _ at D }

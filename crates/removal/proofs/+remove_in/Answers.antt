@@ -1,4 +1,5 @@
-use Rattle.std.proofs.Common.{◌≡◌, ℕ, suc, ◌+◌, ◌*◌, ◌<◌, drop, sym, ap, ◌∙◌, subst, arith, drop-drop}
+use Rattle.std.proofs.Common.{◌≡◌, ℕ, suc, ◌+◌, ◌*◌, ◌<◌, List, [], ◌++◌, drop, sym, refl, ap, ◌∙◌, subst, arith, drop-drop}
+use Rattle.device.specs.Cuts.{Op}
 use Rattle.page.specs.View.{view}
 use Rattle.page.proofs.Pages.{entries_length}
 use Rattle.counts.specs.Moves.{Shaped}
@@ -6,13 +7,18 @@ use Rattle.removal.specs.Able.{AbleIndex, Room, Filling, Made}
 use Rattle.removal.proofs.Fillings.{two}
 use Rattle.edit.specs.Kids.{Beside}
 use Rattle.edit.proofs.Laying.{parts_laid}
-use Rattle.removal.proofs.Levels.{Linkable, leaf_made, index_able, index_made, level_is, part_ready, part_level, part_room, made_level, fits, linkable, within, up}
+use Rattle.removal.proofs.Levels.{Linkable, leaf_made, leaf_calls, index_able, index_made, index_calls, level_is, part_ready, part_level, part_room, made_level, fits, linkable, within, up, up_calls}
 use Rattle.removal.proofs.+remove_in.Given.{Over}
 use Rattle.removal.proofs.+remove_in.Goals.{After-fill-filled, After-remove_in-made}
 use Rattle.removal.proofs.+remove_in.Goals as goal
 
 pub returns-then-page-eq0-clause-made : goal.returns-then-page-eq0-clause-made
 returns-then-page-eq0-clause-made g t c = leaf_made _ _ _ _ _ (view c.without_row.result) c.if-page-eq0.true c.without_row.ensures.level c.without_row.ensures.these
+
+pub returns-then-page-eq0-clause-calls : goal.returns-then-page-eq0-clause-calls
+returns-then-page-eq0-clause-calls g t c =
+    let d = c.args.store.now.1 in
+    leaf_calls _ _ _ _ _ (λ (os : List Op). g.D.Device.led os d d) (g.met.D.Device.quiet d d refl refl) c.if-page-eq0.true
 
 pub covering-i-requires : goal.covering-i-requires
 covering-i-requires g t c = omega (arith, two _ _ _ _ (index_able _ _ c.args.grant.now _ _ c.if-page-eq0.false c.requires.able), entries_length c.args.page.now)
@@ -29,17 +35,17 @@ module _ (g : Over) (t : ℕ) (c : After-fill-filled g t) where
   above : c.args.page.now.level ≡ 0 → ⊥
   above = c.if-page-eq0.false
 
-  A : AbleIndex c.args.store.now (view c.args.page.now) c.args.speed
+  A : AbleIndex c.args.store.now.0 (view c.args.page.now) c.args.speed
   A = index_able _ _ c.args.grant.now _ _ above c.requires.able
 
-  F : Filling c.args.store.now c.fill-filled.new.store c.args.speed A.l A.es c.fill-filled.result
+  F : Filling c.args.store.now.0 c.fill-filled.new.store.0 c.args.speed A.l A.es c.fill-filled.result
   F = c.fill-filled.ensures.filling A.l A.es A.ready
 
   level : c.args.page.now.level ≡ suc A.l
   level = level_is _ _ c.args.grant.now _ _ _ _ A.ready
 
-  room : Room c.args.store.now c.args.grant.now (suc A.l)
-  room = subst (Room c.args.store.now c.args.grant.now) level c.requires.room
+  room : Room c.args.store.now.0 c.args.grant.now (suc A.l)
+  room = subst (Room c.args.store.now.0 c.args.grant.now) level c.requires.room
 
   part : c.fill-filled.result.part.level ≡ A.l
   part = part_level _ _ _ _ _ _ A.ready _ _ F
@@ -59,16 +65,16 @@ remove_in-made-requires g t c κs inside =
       ),
     )
 
-module _ (g : Over) (t : ℕ) (c : After-remove_in-made g t) (a : AbleIndex c.args.store.now (view c.args.page.now) c.args.speed)
-    (f : Filling c.args.store.now c.fill-filled.new.store c.args.speed a.l a.es c.fill-filled.result)
-    (room : Room c.args.store.now c.args.grant.now (suc a.l)) (level : c.args.page.now.level ≡ suc a.l) (shape : Shaped c.args.store.now) where
-  M : Made c.fill-filled.new.store c.remove_in-made.new.store c.args.grant.now c.args.speed a.l f.split.work (view c.remove_in-made.result)
+module _ (g : Over) (t : ℕ) (c : After-remove_in-made g t) (a : AbleIndex c.args.store.now.0 (view c.args.page.now) c.args.speed)
+    (f : Filling c.args.store.now.0 c.fill-filled.new.store.0 c.args.speed a.l a.es c.fill-filled.result)
+    (room : Room c.args.store.now.0 c.args.grant.now (suc a.l)) (level : c.args.page.now.level ≡ suc a.l) (shape : Shaped c.args.store.now.0) where
+  M : Made c.fill-filled.new.store.0 c.remove_in-made.new.store.0 c.args.grant.now c.args.speed a.l f.split.work (view c.remove_in-made.result)
   M = c.remove_in-made.ensures.made a.l f.split.work (part_ready _ _ _ _ _ _ a.ready _ _ f)
 
   flat : c.remove_in-made.result.level ≡ a.l
   flat = made_level _ _ _ _ _ _ a.ready _ _ f _ _ _ M
 
-  link : Linkable c.remove_in-made.new.store c.remove_in-made.new.grant
+  link : Linkable c.remove_in-made.new.store.0 c.remove_in-made.new.grant
   link = linkable _ _ _ _ _ _ a.ready _ _ f _ _ _ M _ c.remove_in-made.ensures.grant (omega (arith, c.requires.enough, level)) room shape
 
   kept : Beside c.remove_in-made.result.level c.fill-filled.result.rest
@@ -97,11 +103,23 @@ returns-clause-made g t c =
     let d = (goal.at.returns-clause-made g t c).After-fill-filled in
     let m = (goal.at.returns-clause-made g t c).After-remove_in-made in
     let L = link g t m (A g t d) (F g t d) (room g t d) (level g t d) c.fill-filled.ensures.shape in
-    index_made _ _ c.args.grant.now _ _ c.if-page-eq0.false c.link_parts.new.store (view c.link_parts.result) (λ l es p.
+    index_made _ _ c.args.grant.now _ _ c.if-page-eq0.false c.link_parts.new.store.0 (view c.link_parts.result) (λ l es p.
     let f = c.fill-filled.ensures.filling l es p in
-    up _ _ _ _ _ _ p _ _ f _ _ _ (c.remove_in-made.ensures.made l f.split.work (part_ready _ _ _ _ _ _ p _ _ f)) _ c.remove_in-made.ensures.grant c.link_parts.new.store (view c.link_parts.result)
+    up _ _ _ _ _ _ p _ _ f _ _ _ (c.remove_in-made.ensures.made l f.split.work (part_ready _ _ _ _ _ _ p _ _ f)) _ c.remove_in-made.ensures.grant c.link_parts.new.store.0 (view c.link_parts.result)
     c.link_parts.ensures.level c.link_parts.ensures.these c.link_parts.ensures.state
     (parts_laid c.remove_in-made.result c.fill-filled.result.rest _ _ _ _ L.wide (low g t m (A g t d) (F g t d) (room g t d) (level g t d) c.fill-filled.ensures.shape) (kept g t m (A g t d) (F g t d) (room g t d) (level g t d) c.fill-filled.ensures.shape)))
+
+pub returns-clause-calls : goal.returns-clause-calls
+returns-clause-calls g t c =
+    let K₁ : List Op → Type 0 = λ os. g.D.Device.led os c.fill-filled.new.store.1 c.remove_in-made.new.store.1 in
+    let K₂ : List Op → Type 0 = λ os. g.D.Device.led os c.remove_in-made.new.store.1 c.link_parts.new.store.1 in
+    let K₃ : List Op → Type 0 = λ os. g.D.Device.led os c.args.store.now.1 c.link_parts.new.store.1 in
+    index_calls _ _ c.args.grant.now _ _ c.if-page-eq0.false K₃ (λ l es p.
+    let f = c.fill-filled.ensures.filling l es p in
+    let r = part_ready _ _ _ _ _ _ p _ _ f in
+    up_calls _ _ _ _ _ _ p _ _ f _ _ _ (c.remove_in-made.ensures.made l f.split.work r) _ c.remove_in-made.ensures.grant K₁ K₂ K₃
+    (λ os ps x y. g.met.D.Device.goes_on [] (os ++ ps) _ _ _ c.fill-filled.ensures.calls (g.met.D.Device.goes_on os ps _ _ _ x y))
+    (c.remove_in-made.ensures.calls l f.split.work r) c.link_parts.ensures.calls)
 
 pub returns-clause-grant : goal.returns-clause-grant
 returns-clause-grant g t c =

@@ -1,4 +1,4 @@
-use Rattle.std.proofs.Common.{◌≡◌, ℕ, ◌+◌, ◌<◌, true, ◌∷◌, ◌++◌, map, length, get_or, take, drop, None, Ok, Err, Option, sym, ap, ◌∙◌, subst, arith}
+use Rattle.std.proofs.Common.{◌≡◌, ℕ, ◌+◌, ◌<◌, true, ◌∷◌, ◌++◌, map, length, get_or, take, drop, None, Ok, Err, Option, sym, ap, ◌∙◌, subst, arith, []}
 use Rattle.std.proofs.lemmas.List.{length-map, get_or-map}
 use Rattle.std.proofs.lemmas.Result.{err_from_is_err_and}
 use Rattle.device.specs.Meaning.{Meaning, blocks_of}
@@ -13,7 +13,7 @@ use Rattle.mount.proofs.clones.walk_clones.Goals as goal
 
 pub visit-requires-clause-rooted : goal.visit-requires-clause-rooted
 visit-requires-clause-rooted g c =
-    let m : Meaning = c.args.store.now.0 in
+    let m : Meaning = c.args.store.now.0.0 in
     let ps = c.args.slot.now.places in
     let t : Table = map root_of ps in
     let i : ℕ = c.loop-clone.clone in
@@ -28,7 +28,7 @@ visit-requires-clause-ready g c =
 
 pub returns-in_err-visit-clause-answer : goal.returns-in_err-visit-clause-answer
 returns-in_err-visit-clause-answer g c =
-    let m : Meaning = c.args.store.now.0 in
+    let m : Meaning = c.args.store.now.0.0 in
     let ps = c.args.slot.now.places in
     let t : Table = map root_of ps in
     let i : ℕ = c.loop-clone.clone in
@@ -39,7 +39,7 @@ returns-in_err-visit-clause-answer g c =
 
 pub loop-clone-preserved : goal.loop-clone-preserved
 loop-clone-preserved g c =
-    let m : Meaning = c.args.store.now.0 in
+    let m : Meaning = c.args.store.now.0.0 in
     let ps = c.args.slot.now.places in
     let t : Table = map root_of ps in
     let i : ℕ = c.loop-clone.clone in
@@ -47,13 +47,17 @@ loop-clone-preserved g c =
     let lt : i < length ps = omega (arith, c.loop-clone-test.true, c.args.slot.now.fits.1) in
     let q : drop i t ≡ p ∷ drop (i + 1) t = drop_at root_of ps i c.place-item.result lt in
     let k : Ok tt ≡ place_walk m i p = c.in_ok-visit.ensures.answer ∙ ap (λ x. place_walk x i p) c.loop-clone.invariant.kept in
-    let cs = c.loop-clone.store.1 in
+    let cs = c.loop-clone.store.0.1 in
     let e = c.in_ok-visit.ensures.counts ∙ ap (λ x. count_at x p cs) c.loop-clone.invariant.kept in
     let ready : Ready (m, cs) = record { roots = roots_of (take i t); counting = subst (λ x. Counting (x, cs) (roots_of (take i t))) c.loop-clone.invariant.kept c.loop-clone.invariant.counting; few = omega (arith, roots_few i t, lt, c.args.slot.now.fits.1) } in
     let good : rooted (blocks_of m) p ≡ true = every_at (rooted (blocks_of m)) i t (drop (i + 1) t) p c.requires.rooted q in
     let roots : roots_of (take (i + 1) t) ≡ roots_of (take i t) ++ roots_at p = roots_more t i (omega (arith, length-map ps root_of, lt)) ∙ ap (λ x. roots_of (take i t) ++ roots_at x) (get_or-map root_of ps i c.place-item.result None lt) in
     record {
       kept = c.visit.ensures.kept ∙ c.loop-clone.invariant.kept;
+      calls = g.met.D.Device.goes_on [] [] _ _ _ c.loop-clone.invariant.calls c.visit.ensures.calls;
       walked = clones_step m i t (drop (i + 1) t) p (table_walk m 0 t) q c.loop-clone.invariant.walked k;
-      counting = subst (λ x. Counting (x, c.visit.new.store.1) (roots_of (take (i + 1) t))) (sym (c.visit.ensures.kept ∙ c.loop-clone.invariant.kept)) (subst (Counting (m, c.visit.new.store.1)) (sym roots) (subst (λ xs. Counting (m, xs) (roots_of (take i t) ++ roots_at p)) (sym e) (counting_place m i cs p ready good k)));
+      counting = subst (λ x. Counting (x, c.visit.new.store.0.1) (roots_of (take (i + 1) t))) (sym (c.visit.ensures.kept ∙ c.loop-clone.invariant.kept)) (subst (Counting (m, c.visit.new.store.0.1)) (sym roots) (subst (λ xs. Counting (m, xs) (roots_of (take i t) ++ roots_at p)) (sym e) (counting_place m i cs p ready good k)));
     }
+
+pub returns-in_err-visit-clause-calls : goal.returns-in_err-visit-clause-calls
+returns-in_err-visit-clause-calls g c = g.met.D.Device.goes_on [] [] _ _ _ c.loop-clone.invariant.calls c.visit.ensures.calls

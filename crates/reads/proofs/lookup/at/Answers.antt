@@ -1,4 +1,4 @@
-use Rattle.std.proofs.Common.{◌≡◌, ℕ, List, ℤ, Some, None, Option, sym, refl, ap, ◌∙◌, subst, ap₂}
+use Rattle.std.proofs.Common.{◌≡◌, ℕ, List, ℤ, Some, None, Option, sym, refl, ap, ◌∙◌, subst, ap₂, []}
 use Rattle.std.specs.Option.{option_map}
 use Rattle.device.specs.Meaning.{Meaning, current_at}
 use Rattle.table.specs.declared.row.Row.{Row}
@@ -13,17 +13,17 @@ use Rattle.reads.proofs.Near.{beside_left, beside_right, up_by, past_by, past_al
 use Rattle.reads.proofs.lookup.at.Goals as goal
 
 pub descend-sides-requires : goal.descend-sides-requires
-descend-sides-requires g c = (start c.args.store.now.0 c.args.root.height c.args.root.block c.requires).sound
+descend-sides-requires g c = (start c.args.store.now.0.0 c.args.root.height c.args.root.block c.requires).sound
 
 pub nearest-requires-in_default-None : goal.nearest-requires-in_default-None
 nearest-requires-in_default-None g c =
     subst (λ (q : Meaning × List ℕ). Beside (current_at q.0) c.args.speed c.descend-sides.result.right) (sym c.descend-sides.ensures.kept)
-    (beside_right (current_at c.args.store.now.0) c.args.root.block c.args.speed c.descend-sides.new.page.entries _ _ c.descend-sides.ensures.found)
+    (beside_right (current_at c.args.store.now.0.0) c.args.root.block c.args.speed c.descend-sides.new.page.entries _ _ c.descend-sides.ensures.found)
 
 pub nearest-requires : goal.nearest-requires
 nearest-requires g c =
     subst (λ (q : Meaning × List ℕ). Beside (current_at q.0) c.args.speed c.descend-sides.result.left) (sym c.descend-sides.ensures.kept)
-    (beside_left (current_at c.args.store.now.0) c.args.root.block c.args.speed c.descend-sides.new.page.entries _ _ c.descend-sides.ensures.found)
+    (beside_left (current_at c.args.store.now.0.0) c.args.root.block c.args.speed c.descend-sides.new.page.entries _ _ c.descend-sides.ensures.found)
 
 -- the angle by the nearest rows of the whole
 by_rows : (rows all : List (ℕ × ℤ)) (s : ℕ) (before after : Option (ℕ × ℤ)) (a : Option ℤ) → a ≡ angle_by before after s → rows ≡ all → up_to s all ≡ before → past s all ≡ after → a ≡ angle_at s rows
@@ -36,7 +36,7 @@ that (Some r) n = (r, refl)
 
 pub returns-in_default-clause-answer : goal.returns-in_default-clause-answer
 returns-in_default-clause-answer g c =
-    let m = c.args.store.now.0 in
+    let m = c.args.store.now.0.0 in
     let s = c.args.speed in
     let x = c.args.root.block in
     let leaf = c.descend-sides.new.page.entries in
@@ -52,7 +52,7 @@ returns-in_default-clause-answer g c =
 
 pub returns-in_default-None-clause-answer : goal.returns-in_default-None-clause-answer
 returns-in_default-None-clause-answer g c =
-    let m = c.args.store.now.0 in
+    let m = c.args.store.now.0.0 in
     let s = c.args.speed in
     let x = c.args.root.block in
     let leaf = c.descend-sides.new.page.entries in
@@ -67,7 +67,7 @@ returns-in_default-None-clause-answer g c =
 
 pub returns-in-None-default-clause-answer : goal.returns-in-None-default-clause-answer
 returns-in-None-default-clause-answer g c =
-    let m = c.args.store.now.0 in
+    let m = c.args.store.now.0.0 in
     let s = c.args.speed in
     let x = c.args.root.block in
     let leaf = c.descend-sides.new.page.entries in
@@ -79,3 +79,10 @@ returns-in-None-default-clause-answer g c =
     = sym (c.nearest.ensures.nearest.0 ∙ ap (λ (q : Meaning × List ℕ). up_to s (map_e angle_of (rows_beside (current_at q.0) left))) c.descend-sides.ensures.kept) in
     by_rows _ _ s _ _ c.angle_by.result c.angle_by.ensures (start m c.args.root.height x c.requires).rows
     (up_by angle_of (current_at m) s x leaf _ _ f ∙ rw up near) (past_alone angle_of (current_at m) s x leaf _ _ f up ∙ sym around.1)
+
+-- two ways down, and nothing is written
+pub returns-in_default-None-clause-calls : goal.returns-in_default-None-clause-calls
+returns-in_default-None-clause-calls g c = g.met.D.Device.goes_on [] [] _ _ _ c.descend-sides.ensures.calls c.nearest-in_default-None.ensures.calls
+
+pub returns-in-None-default-clause-calls : goal.returns-in-None-default-clause-calls
+returns-in-None-default-clause-calls g c = g.met.D.Device.goes_on [] [] _ _ _ c.descend-sides.ensures.calls c.nearest.ensures.calls

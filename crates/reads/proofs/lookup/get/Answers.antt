@@ -14,7 +14,7 @@ use Rattle.reads.proofs.Near.{look_found, look_map}
 use Rattle.reads.proofs.lookup.get.Goals as goal
 
 pub descend-requires : goal.descend-requires
-descend-requires g c = (start c.args.store.now.0 c.args.root.height c.args.root.block c.requires).sound
+descend-requires g c = (start c.args.store.now.0.0 c.args.root.height c.args.root.block c.requires).sound
 
 -- what is looked up in the leaf is the answer
 found_row : (m : Meaning) (h x s : ℕ) (leaf : List (ℕ × ℕ)) (left right : Option ℕ) → GoodOn m (h, x) → Found (current_at m) x s leaf left right → option_map angle_of (look s leaf) ≡ look s (rows_on m (h, x))
@@ -29,16 +29,22 @@ look_valid : (s v : ℕ) (es : List (ℕ × ℕ)) → Each Valid es → look s e
 look_valid s v [] a e = absurd (none-some v e)
 look_valid s v (x ∷ r) a e = by_head s v x r (eqb s x.0) a.0.1 (λ q. look_valid s v r a.1 q) e
 
+pub returns-in_err-payload-clause-calls : goal.returns-in_err-payload-clause-calls
+returns-in_err-payload-clause-calls g c = c.loop-page.invariant.calls
+
 pub returns-in_err-payload-clause-answer : goal.returns-in_err-payload-clause-answer
 returns-in_err-payload-clause-answer g c =
     c.from_residual.ensures ∙ ap (option_map angle_of) (sym c.in_err-payload.was ∙ c.find.ensures)
-    ∙ found_row c.args.store.now.0 c.args.root.height c.args.root.block c.args.speed c.descend.new.page.entries _ _ c.requires c.descend.ensures.found
+    ∙ found_row c.args.store.now.0.0 c.args.root.height c.args.root.block c.args.speed c.descend.new.page.entries _ _ c.requires c.descend.ensures.found
 
 pub stored_angle-requires : goal.stored_angle-requires
 stored_angle-requires g c = omega (arith, look_valid c.args.speed c.in_ok-payload.payload c.descend.new.page.entries c.descend.ensures.found.valid (sym c.find.ensures ∙ c.in_ok-payload.was))
+
+pub returns-clause-calls : goal.returns-clause-calls
+returns-clause-calls g c = c.loop-page.invariant.calls
 
 pub returns-clause-answer : goal.returns-clause-answer
 returns-clause-answer g c =
     let fits : FitsSigned w32 c.stored_angle.result = search rules in
     ap Some (to_z-of_z w32 c.stored_angle.result fits ∙ c.stored_angle.ensures) ∙ ap (option_map angle_of) (sym c.in_ok-payload.was ∙ c.find.ensures)
-    ∙ found_row c.args.store.now.0 c.args.root.height c.args.root.block c.args.speed c.descend.new.page.entries _ _ c.requires c.descend.ensures.found
+    ∙ found_row c.args.store.now.0.0 c.args.root.height c.args.root.block c.args.speed c.descend.new.page.entries _ _ c.requires c.descend.ensures.found

@@ -6,6 +6,6 @@ use Rattle.reads.proofs.lookup.nearest.Goals as goal
 
 pub returns-clause-nearest : goal.returns-clause-nearest
 returns-clause-nearest g c = (
-  c.around.ensures.0 ∙ near_up angle_of (current_at c.args.store.now.0) c.args.speed c.args.block c.in-Some.block c.descend.new.page.entries _ _ c.in-Some.is c.requires c.descend.ensures.found,
-  c.around.ensures.1 ∙ near_past angle_of (current_at c.args.store.now.0) c.args.speed c.args.block c.in-Some.block c.descend.new.page.entries _ _ c.in-Some.is c.requires c.descend.ensures.found,
+  c.around.ensures.0 ∙ near_up angle_of (current_at c.args.store.now.0.0) c.args.speed c.args.block c.in-Some.block c.descend.new.page.entries _ _ c.in-Some.is c.requires c.descend.ensures.found,
+  c.around.ensures.1 ∙ near_past angle_of (current_at c.args.store.now.0.0) c.args.speed c.args.block c.in-Some.block c.descend.new.page.entries _ _ c.in-Some.is c.requires c.descend.ensures.found,
 )

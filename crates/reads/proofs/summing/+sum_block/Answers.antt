@@ -12,11 +12,11 @@ use Rattle.reads.proofs.Totals.{summary-append}
 use Rattle.reads.proofs.summing.+sum_block.Goals as goal
 
 pub load-requires : goal.load-requires
-load-requires g t c = readable c.args.store.now.0 c.args.block c.requires
+load-requires g t c = readable c.args.store.now.0.0 c.args.block c.requires
 
 pub sum_leaf-requires : goal.sum_leaf-requires
 sum_leaf-requires g t c =
-    let m = c.args.store.now.0 in
+    let m = c.args.store.now.0.0 in
     let p = c.load.new.page in
     let h = here m c.args.block p c.requires c.load.ensures.page in
     let z : p.level ≡ 0 = omega (arith, c.level.ensures.level, c.if-level-eq0.true) in
@@ -24,7 +24,7 @@ sum_leaf-requires g t c =
 
 pub returns-then-level-eq0-clause-answer : goal.returns-then-level-eq0-clause-answer
 returns-then-level-eq0-clause-answer g t c =
-    let m = c.args.store.now.0 in
+    let m = c.args.store.now.0.0 in
     let p = c.load.new.page in
     let h = here m c.args.block p c.requires c.load.ensures.page in
     let z : p.level ≡ 0 = omega (arith, c.level.ensures.level, c.if-level-eq0.true) in
@@ -32,18 +32,18 @@ returns-then-level-eq0-clause-answer g t c =
 
 pub sum_block-requires : goal.sum_block-requires
 sum_block-requires g t c κs within =
-    let m = c.args.store.now.0 in
+    let m = c.args.store.now.0.0 in
     let p = c.load.new.page in
     let h = here m c.args.block p c.requires c.load.ensures.page in
     let u : 0 < p.level = omega (arith, c.level.ensures.level, c.if-level-eq0.false) in
     let y = c.value.result in
     let n = next_of m c.args.block p h c.loop-i.i y u (omega (arith, c.loop-i-test.true, c.len-i-end.ensures.len)) c.value.ensures.is in
-    let same : c.loop-i.store.0 ≡ m = ap (λ (q : Meaning × List ℕ). q.0) c.loop-i.invariant.kept in
+    let same : c.loop-i.store.0.0 ≡ m = ap (λ (q : Meaning × List ℕ). q.0) c.loop-i.invariant.kept in
     (omega (arith, c.decreases, n.lower, h.level, ap (λ (z : Meaning). level_of (block_at z y)) same), (within.0, (within.1, subst (λ (z : Meaning). SoundAt (current_at z) y) (sym same) n.full.sound)))
 
 pub loop-i-preserved : goal.loop-i-preserved
 loop-i-preserved g t c =
-    let m = c.args.store.now.0 in
+    let m = c.args.store.now.0.0 in
     let p = c.load.new.page in
     let h = here m c.args.block p c.requires c.load.ensures.page in
     let u : 0 < p.level = omega (arith, c.level.ensures.level, c.if-level-eq0.false) in
@@ -57,13 +57,14 @@ loop-i-preserved g t c =
     let more = ap (map_e angle_of) n.more ∙ map-append angle_of rows (rows_at (current_at m) y) in
     record {
       kept = c.sum_block.ensures.kept ∙ c.loop-i.invariant.kept;
+      calls = g.met.D.Device.goes_on [] [] _ _ _ c.loop-i.invariant.calls c.sum_block.ensures.calls;
       sum = c.join-sum.ensures ∙ ap₂ s.summing.joined c.loop-i.invariant.sum part
           ∙ sym (summary-append s.summing w.none_before w.none_after w.associates (map_e angle_of rows) (map_e angle_of (rows_at (current_at m) y))) ∙ ap (summary_of s.summing) (sym more);
     }
 
 pub returns-clause-answer : goal.returns-clause-answer
 returns-clause-answer g t c =
-    let m = c.args.store.now.0 in
+    let m = c.args.store.now.0.0 in
     let p = c.load.new.page in
     let h = here m c.args.block p c.requires c.load.ensures.page in
     let all : take c.loop-i.i p.entries ≡ p.entries = take_all c.loop-i.i p.entries (omega (arith, c.loop-i-test.false, c.len-i-end.ensures.len)) in

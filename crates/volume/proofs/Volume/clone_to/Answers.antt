@@ -31,10 +31,10 @@ invariant_of-self g c =
     let r : Root = (c.in_ok-root.root.height, c.in_ok-root.root.block) in
     let i = c.self.inside in
     let t : Tables = tables i.working i.committed i.generation in
-    let q : State = i.store in
+    let q : State = i.store.0 in
     let k : Kept (placed t (set t.working c.args.to (Some r))) (q.0, retained r.1 q.1) = copied t q c.self.invariant c.args.from r (placed_here c.args.from c.self.view_is c.in_ok-root.ensures.1.1) c.in_ok-root.ensures.1.0
     c.args.to c.in_ok-root.ensures.2 (placed_here c.args.to c.self.view_is c.in_ok-root.ensures.3) in
-    subst (λ t. Kept t c.retain.new.self) (sym (tables_set i.working i.committed i.generation c.args.to (Some c.in_ok-root.root)))
+    subst (λ t. Kept t c.retain.new.self.0) (sym (tables_set i.working i.committed i.generation c.args.to (Some c.in_ok-root.root)))
     (subst (λ (q : State). Kept (placed t (set t.working c.args.to (Some r))) q) (sym (ap₂ (λ (m : Meaning) (cs : List ℕ). (m, cs)) c.retain.ensures.kept c.retain.ensures.counts)) k)
 
 pub returns : goal.returns
@@ -42,11 +42,11 @@ returns g c =
     let r : Root = (c.in_ok-root.root.height, c.in_ok-root.root.block) in
     let i = c.self.inside in
     let t : Tables = tables i.working i.committed i.generation in
-    let v : Tables × Meaning = (t, i.store.0) in
+    let v : Tables × Meaning = (t, i.store.0.0) in
     let e : c.args.self.now ≡ v = sym c.self.view_is in
-    let d : Called (clone c.args.from c.args.to) (tt {0}) v (Ok (tt {0})) (placed t (set t.working c.args.to (Some r)), c.retain.new.self.0)
-    = clone_called v c.args.from c.args.to r c.retain.new.self.0
+    let d : Called (clone c.args.from c.args.to) (tt {0}) v (Ok (tt {0})) (placed t (set t.working c.args.to (Some r)), c.retain.new.self.0.0)
+    = clone_called v c.args.from c.args.to r c.retain.new.self.0.0
     (early_here (clone c.args.from c.args.to) c.self.view_is c.in_ok-root.ensures.0)
     (placed_here c.args.from c.self.view_is c.in_ok-root.ensures.1.1) c.retain.ensures.kept in
-    subst (λ (t' : Tables). Called (clone c.args.from c.args.to) (tt {0}) c.args.self.now (Ok (tt {0})) (t', c.retain.new.self.0)) (sym (tables_set i.working i.committed i.generation c.args.to (Some c.in_ok-root.root)))
-    (subst (λ (v : Tables × Meaning). Called (clone c.args.from c.args.to) (tt {0}) v (Ok (tt {0})) (placed t (set t.working c.args.to (Some r)), c.retain.new.self.0)) c.self.view_is d)
+    subst (λ (t' : Tables). Called (clone c.args.from c.args.to) (tt {0}) c.args.self.now (Ok (tt {0})) (t', c.retain.new.self.0.0)) (sym (tables_set i.working i.committed i.generation c.args.to (Some c.in_ok-root.root)))
+    (subst (λ (v : Tables × Meaning). Called (clone c.args.from c.args.to) (tt {0}) v (Ok (tt {0})) (placed t (set t.working c.args.to (Some r)), c.retain.new.self.0.0)) c.self.view_is d)

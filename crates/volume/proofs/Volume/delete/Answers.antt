@@ -20,7 +20,7 @@ pub overflow_sub-root : goal.overflow_sub-root
 overflow_sub-root g c =
     let r : Root = (c.in_ok-root.root.height, c.in_ok-root.root.block) in
     let i = c.self.inside in
-    (good (tables i.working i.committed i.generation) i.store c.self.invariant c.args.n r (placed_here c.args.n c.self.view_is c.in_ok-root.ensures.1.1) c.in_ok-root.ensures.1.0).height
+    (good (tables i.working i.committed i.generation) i.store.0 c.self.invariant c.args.n r (placed_here c.args.n c.self.view_is c.in_ok-root.ensures.1.1) c.in_ok-root.ensures.1.0).height
 
 pub release-requires : goal.release-requires
 release-requires g c =
@@ -28,26 +28,26 @@ release-requires g c =
     let i = c.self.inside in
     let t : Tables = tables i.working i.committed i.generation in
     let at : place t.working c.args.n ≡ Some r = placed_here c.args.n c.self.view_is c.in_ok-root.ensures.1.1 in
-    let up : 1 ≤ r.0 = (good t i.store c.self.invariant c.args.n r at c.in_ok-root.ensures.1.0).height in
-    subst (λ l. Held i.store r.1 l) (top_is r.0 up) (held t i.store c.self.invariant c.args.n r at c.in_ok-root.ensures.1.0)
+    let up : 1 ≤ r.0 = (good t i.store.0 c.self.invariant c.args.n r at c.in_ok-root.ensures.1.0).height in
+    subst (λ l. Held i.store.0 r.1 l) (top_is r.0 up) (held t i.store.0 c.self.invariant c.args.n r at c.in_ok-root.ensures.1.0)
 
 pub invariant_of-self : goal.invariant_of-self
 invariant_of-self g c =
     let r : Root = (c.in_ok-root.root.height, c.in_ok-root.root.block) in
     let i = c.self.inside in
     let t : Tables = tables i.working i.committed i.generation in
-    let q : State = i.store in
+    let q : State = i.store.0 in
     let at : place t.working c.args.n ≡ Some r = placed_here c.args.n c.self.view_is c.in_ok-root.ensures.1.1 in
-    let k : Kept (placed t (set t.working c.args.n None)) (q.0, c.release.new.self.1) = dropped t q c.self.invariant c.args.n r at c.in_ok-root.ensures.1.0 c.release.new.self.1 c.release.ensures.sized c.release.ensures.dropped in
-    subst (λ t. Kept t c.release.new.self) (sym (tables_set i.working i.committed i.generation c.args.n None))
-    (subst (λ (m : Meaning). Kept (placed t (set t.working c.args.n None)) (m, c.release.new.self.1)) (sym c.release.ensures.kept) k)
+    let k : Kept (placed t (set t.working c.args.n None)) (q.0, c.release.new.self.0.1) = dropped t q c.self.invariant c.args.n r at c.in_ok-root.ensures.1.0 c.release.new.self.0.1 c.release.ensures.sized c.release.ensures.dropped in
+    subst (λ t. Kept t c.release.new.self.0) (sym (tables_set i.working i.committed i.generation c.args.n None))
+    (subst (λ (m : Meaning). Kept (placed t (set t.working c.args.n None)) (m, c.release.new.self.0.1)) (sym c.release.ensures.kept) k)
 
 pub returns : goal.returns
 returns g c =
     let i = c.self.inside in
     let t : Tables = tables i.working i.committed i.generation in
-    let v : Tables × Meaning = (t, i.store.0) in
-    let d : Called (delete c.args.n) (tt {0}) v (Ok (tt {0})) (placed t (set t.working c.args.n None), c.release.new.self.0)
-    = delete_called v c.args.n c.release.new.self.0 (early_here (delete c.args.n) c.self.view_is c.in_ok-root.ensures.0) c.release.ensures.kept in
-    subst (λ (t' : Tables). Called (delete c.args.n) (tt {0}) c.args.self.now (Ok (tt {0})) (t', c.release.new.self.0)) (sym (tables_set i.working i.committed i.generation c.args.n None))
-    (subst (λ (v : Tables × Meaning). Called (delete c.args.n) (tt {0}) v (Ok (tt {0})) (placed t (set t.working c.args.n None), c.release.new.self.0)) c.self.view_is d)
+    let v : Tables × Meaning = (t, i.store.0.0) in
+    let d : Called (delete c.args.n) (tt {0}) v (Ok (tt {0})) (placed t (set t.working c.args.n None), c.release.new.self.0.0)
+    = delete_called v c.args.n c.release.new.self.0.0 (early_here (delete c.args.n) c.self.view_is c.in_ok-root.ensures.0) c.release.ensures.kept in
+    subst (λ (t' : Tables). Called (delete c.args.n) (tt {0}) c.args.self.now (Ok (tt {0})) (t', c.release.new.self.0.0)) (sym (tables_set i.working i.committed i.generation c.args.n None))
+    (subst (λ (v : Tables × Meaning). Called (delete c.args.n) (tt {0}) v (Ok (tt {0})) (placed t (set t.working c.args.n None), c.release.new.self.0.0)) c.self.view_is d)

@@ -6,4 +6,4 @@ use Rattle.volume.proofs.Volume.flush.Goals as goal
 pub invariant_of-self : goal.invariant_of-self
 invariant_of-self g c =
     let i = c.self.inside in
-    subst (Kept (tables i.working i.committed i.generation)) (sym c.flush.ensures) (kept_flushed (tables i.working i.committed i.generation) i.store c.self.invariant)
+    subst (Kept (tables i.working i.committed i.generation)) (sym c.flush.ensures.state) (kept_flushed (tables i.working i.committed i.generation) i.store.0 c.self.invariant)

@@ -11,5 +11,5 @@ pub invariant_of-result : goal.invariant_of-result
 invariant_of-result g c =
     let m : Meaning = g.D.Device.meaning c.args.device in
     let m' : Meaning = g.D.Device.meaning c.in_ok-device.device in
-    let b : blocks_of m' ≡ blocks_of m = ap blocks_of c.in_ok-device.ensures.after ∙ blocks_replay (formatting m.width) m in
-    subst (Kept bare) (sym c.new.ensures) (kept_bare m' c.in-Ok.counts.of.items c.in_ok-device.ensures.formatted (c.in-Ok.ensures.none ∙ ap (λ n. replicate n 0) (sym b)))
+    let b : blocks_of m' ≡ blocks_of m = ap blocks_of c.in_ok-device.ensures.format.after ∙ blocks_replay (formatting m.width) m in
+    subst (Kept bare) (sym (ap (λ q. q.0) c.new.ensures)) (kept_bare m' c.in-Ok.counts.of.items c.in_ok-device.ensures.format.formatted (c.in-Ok.ensures.none ∙ ap (λ n. replicate n 0) (sym b)))

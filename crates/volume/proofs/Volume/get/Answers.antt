@@ -20,11 +20,11 @@ get-requires g c =
     let i = c.self.inside in
     let t : Tables = tables i.working i.committed i.generation in
     let r : Root = (c.in_ok-root.root.height, c.in_ok-root.root.block) in
-    good t i.store c.self.invariant c.args.n r (placed_here c.args.n c.self.view_is c.in_ok-root.ensures.1.1) c.in_ok-root.ensures.1.0
+    good t i.store.0 c.self.invariant c.args.n r (placed_here c.args.n c.self.view_is c.in_ok-root.ensures.1.1) c.in_ok-root.ensures.1.0
 
 pub returns : goal.returns
 returns g c =
     let i = c.self.inside in
     let t : Tables = tables i.working i.committed i.generation in
-    read_called c.args.self.now (t, i.store.0) (t, c.get.new.store.0) c.args.n (c.in_ok-root.root.height, c.in_ok-root.root.block) c.self.view_is (ap (λ (q : State). (t, q.0)) c.get.ensures.kept) c.in_ok-root.ensures.1.1
+    read_called c.args.self.now (t, i.store.0.0) (t, c.get.new.store.0.0) c.args.n (c.in_ok-root.root.height, c.in_ok-root.root.block) c.self.view_is (ap (λ (q : State). (t, q.0)) c.get.ensures.kept) c.in_ok-root.ensures.1.1
     (look c.args.speed) c.get.result c.get.ensures.answer (get c.args.n c.args.speed) c.in_ok-root.ensures.0 refl (refl, refl)

@@ -22,14 +22,14 @@ list-requires g c =
     let i = c.self.inside in
     let t : Tables = tables i.working i.committed i.generation in
     let r : Root = (c.in_ok-root.root.height, c.in_ok-root.root.block) in
-    good t i.store c.self.invariant c.args.n r (placed_here c.args.n c.self.view_is c.in_ok-root.ensures.1.1) c.in_ok-root.ensures.1.0
+    good t i.store.0 c.self.invariant c.args.n r (placed_here c.args.n c.self.view_is c.in_ok-root.ensures.1.1) c.in_ok-root.ensures.1.0
 
 pub returns-clause-call : goal.returns-clause-call
 returns-clause-call g c =
     let i = c.self.inside in
     let t : Tables = tables i.working i.committed i.generation in
     let k : ℕ = length c.args.out.now in
-    read_called c.args.self.now (t, i.store.0) (t, c.list.new.store.0) c.args.n (c.in_ok-root.root.height, c.in_ok-root.root.block) c.self.view_is (ap (λ (q : State). (t, q.0)) c.list.ensures.kept) c.in_ok-root.ensures.1.1
+    read_called c.args.self.now (t, i.store.0.0) (t, c.list.new.store.0.0) c.args.n (c.in_ok-root.root.height, c.in_ok-root.root.block) c.self.view_is (ap (λ (q : State). (t, q.0)) c.list.ensures.kept) c.in_ok-root.ensures.1.1
     (λ (rs : Map). min k (length (from c.args.speed rs))) c.list.result c.list.ensures.count (rows c.args.n c.args.speed k) c.in_ok-root.ensures.0 refl (refl, refl)
 
 pub returns-clause-listed : goal.returns-clause-listed
@@ -37,7 +37,7 @@ returns-clause-listed g c =
     let i = c.self.inside in
     let t : Tables = tables i.working i.committed i.generation in
     let r : Root = (c.in_ok-root.root.height, c.in_ok-root.root.block) in
-    let v : Tables × Meaning = (t, i.store.0) in
+    let v : Tables × Meaning = (t, i.store.0.0) in
     let is : rows_of_clone c.args.self.now c.args.n ≡ _ = ap (λ (v : Tables × Meaning). rows_of_clone v c.args.n) (sym c.self.view_is)
     ∙ clone_rows v c.args.n r (placed_here c.args.n c.self.view_is c.in_ok-root.ensures.1.1) in
     (c.list.ensures.listed ∙ ap (λ (rs : Map). take (length c.args.out.now) (from c.args.speed rs)) (sym is), c.list.ensures.rest)

@@ -1,9 +1,10 @@
-use Rattle.std.proofs.Common.{rules, ◌≡◌, ◌+◌, ◌*◌, ◌<◌, ℕ, ℤ, set, Some, None, Ok, Err, w32, sym, ap, ◌∙◌, subst, arith}
+use Rattle.std.proofs.Common.{List, rules, ◌≡◌, ◌+◌, ◌*◌, ◌<◌, ℕ, ℤ, set, Some, None, Ok, Err, w32, sym, ap, ◌∙◌, subst, arith}
 use Rattle.std.proofs.lemmas.Int.{to_z-of_z}
 use Rattle.device.specs.Meaning.{Meaning, blocks_of, current_at}
 use Rattle.counts.specs.Counts.{free_blocks}
 use Rattle.counts.specs.Moves.{State}
 use Rattle.page.specs.Slot.{Root}
+use Rattle.device.specs.Cuts.{Op}
 use Rattle.edit.specs.Edited.{Edited}
 use Rattle.model.specs.Plain.Ask.{put}
 use Rattle.model.specs.Plain.{early, has, place}
@@ -31,7 +32,7 @@ reserve-requires g c =
     let t : Tables = tables i.working i.committed i.generation in
     let r : Root = (c.in_ok-root.root.height, c.in_ok-root.root.block) in
     let at : place t.working c.args.n ≡ Some r = placed_here c.args.n c.self.view_is c.in_ok-root.ensures.1.1 in
-    omega (arith, good_low (blocks_of i.store.0) (current_at i.store.0) r (good t i.store c.self.invariant c.args.n r at c.in_ok-root.ensures.1.0))
+    omega (arith, good_low (blocks_of i.store.0.0) (current_at i.store.0.0) r (good t i.store.0 c.self.invariant c.args.n r at c.in_ok-root.ensures.1.0))
 
 pub returns-in_err-grant : goal.returns-in_err-grant
 returns-in_err-grant g c =
@@ -39,10 +40,10 @@ returns-in_err-grant g c =
     let t : Tables = tables i.working i.committed i.generation in
     let r : Root = (c.in_ok-root.root.height, c.in_ok-root.root.block) in
     let at : place t.working c.args.n ≡ Some r = placed_here c.args.n c.self.view_is c.in_ok-root.ensures.1.1 in
-    let l : late (shape t i.store.0) (put c.args.n c.args.speed c.args.angle) ≡ Some c.in_err-grant.field-0.0
-    = ap (λ (h : ℕ). needs (shape t i.store.0) c.args.n (2 * h + 1)) (high t i.store.0 i.store.1 c.self.invariant c.args.n r at)
-    ∙ needs_is t i.store.0 i.store.1 c.self.invariant c.args.n (2 * r.0 + 1) ∙ c.in_err-grant.ensures in
-    let d = denied_late t i.store.0 (put c.args.n c.args.speed c.args.angle) (tt {0}) c.in_err-grant.field-0.0
+    let l : late (shape t i.store.0.0) (put c.args.n c.args.speed c.args.angle) ≡ Some c.in_err-grant.field-0.0
+    = ap (λ (h : ℕ). needs (shape t i.store.0.0) c.args.n (2 * h + 1)) (high t i.store.0.0 i.store.0.1 c.self.invariant c.args.n r at)
+    ∙ needs_is t i.store.0.0 i.store.0.1 c.self.invariant c.args.n (2 * r.0 + 1) ∙ c.in_err-grant.ensures in
+    let d = denied_late t i.store.0.0 (put c.args.n c.args.speed c.args.angle) (tt {0}) c.in_err-grant.field-0.0
     (ap (λ (v : Tables × Meaning). early (has v.0.working) (put c.args.n c.args.speed c.args.angle)) c.self.view_is
     ∙ subst (λ (a : ℤ). early (has c.args.self.now.0.working) (put c.args.n c.args.speed a) ≡ None) (to_z-of_z w32 c.args.angle c.ranges.angle) c.in_ok-root.ensures.0) l in
     let d' = subst (λ (v : Tables × Meaning). Called (put c.args.n c.args.speed c.args.angle) (tt {0}) v (Err c.in_err-grant.field-0.0) v) c.self.view_is d in
@@ -54,11 +55,11 @@ put_tree-requires-clause-editable g c =
     let t : Tables = tables i.working i.committed i.generation in
     let r : Root = (c.in_ok-root.root.height, c.in_ok-root.root.block) in
     let at : place t.working c.args.n ≡ Some r = placed_here c.args.n c.self.view_is c.in_ok-root.ensures.1.1 in
-    editable t i.store.0 i.store.1 c.self.invariant c.args.n r at c.in_ok-root.ensures.1.0
+    editable t i.store.0.0 i.store.0.1 c.self.invariant c.args.n r at c.in_ok-root.ensures.1.0
 
 -- the row, as the call names it
-there : (t : Tables) (q q' : State) (K : Kept t q) (n : ℕ) (r r' : Root) (s v speed : ℕ) (angle : ℤ) → n < 24 → place t.working n ≡ Some r → s ≡ speed → v ≡ payload_of angle
-    → Edited (puts s v) (tree_at (current_at q.0) r) q q' → r' ≡ top_of (changed_on ℕ (puts s v) (free_blocks q.1) (tree_at (current_at q.0) r)) → Good (blocks_of q'.0) (current_at q'.0) r'
+there : {os : List Op} (t : Tables) (q q' : State) (K : Kept t q) (n : ℕ) (r r' : Root) (s v speed : ℕ) (angle : ℤ) → n < 24 → place t.working n ≡ Some r → s ≡ speed → v ≡ payload_of angle
+    → Edited os (puts s v) (tree_at (current_at q.0) r) q q' → r' ≡ top_of (changed_on ℕ (puts s v) (free_blocks q.1) (tree_at (current_at q.0) r)) → Good (blocks_of q'.0) (current_at q'.0) r'
     → There t q.0 n (puts speed (payload_of angle)) r' q'.0 q'.1
 there t q q' K n r r' s v speed angle h at es ev E e G =
     subst (λ (x : ℕ). There t q.0 n (puts x (payload_of angle)) r' q'.0 q'.1) es
@@ -71,9 +72,9 @@ invariant_of-self g c =
     let r : Root = (c.in_ok-root.root.height, c.in_ok-root.root.block) in
     let at : place t.working c.args.n ≡ Some r = placed_here c.args.n c.self.view_is c.in_ok-root.ensures.1.1 in
     let e = c.put_tree.ensures in
-    let T = there t i.store c.put_tree.new.store c.self.invariant c.args.n r (c.put_tree.result.height, c.put_tree.result.block) _ _ c.args.speed c.args.angle c.in_ok-root.ensures.1.0 at c.in_ok-root.ensures.2
-    (c.payload.ensures ∙ ap payload_of (c.in_ok-root.ensures.3 ∙ to_z-of_z w32 c.args.angle c.ranges.angle)) e.edited e.root e.good in
-    subst (λ t. Kept t c.put_tree.new.store) (sym (tables_set i.working i.committed i.generation c.args.n (Some c.put_tree.result))) T.kept
+    let T = there t i.store.0 c.put_tree.new.store.0 c.self.invariant c.args.n r (c.put_tree.result.height, c.put_tree.result.block) _ _ c.args.speed c.args.angle c.in_ok-root.ensures.1.0 at c.in_ok-root.ensures.2
+    (c.payload.ensures ∙ ap payload_of (c.in_ok-root.ensures.3 ∙ to_z-of_z w32 c.args.angle c.ranges.angle)) e.edited.2 e.root e.good in
+    subst (λ t. Kept t c.put_tree.new.store.0) (sym (tables_set i.working i.committed i.generation c.args.n (Some c.put_tree.result))) T.kept
 
 pub returns : goal.returns
 returns g c =
@@ -81,16 +82,16 @@ returns g c =
     let t : Tables = tables i.working i.committed i.generation in
     let r : Root = (c.in_ok-root.root.height, c.in_ok-root.root.block) in
     let r' : Root = (c.put_tree.result.height, c.put_tree.result.block) in
-    let q : State = c.put_tree.new.store in
+    let q : State = c.put_tree.new.store.0 in
     let at : place t.working c.args.n ≡ Some r = placed_here c.args.n c.self.view_is c.in_ok-root.ensures.1.1 in
     let e = c.put_tree.ensures in
-    let T = there t i.store q c.self.invariant c.args.n r r' _ _ c.args.speed c.args.angle c.in_ok-root.ensures.1.0 at c.in_ok-root.ensures.2
-    (c.payload.ensures ∙ ap payload_of (c.in_ok-root.ensures.3 ∙ to_z-of_z w32 c.args.angle c.ranges.angle)) e.edited e.root e.good in
-    let l : late (shape t i.store.0) (put c.args.n c.args.speed c.args.angle) ≡ None
-    = ap (λ (h : ℕ). needs (shape t i.store.0) c.args.n (2 * h + 1)) (high t i.store.0 i.store.1 c.self.invariant c.args.n r at)
-    ∙ needs_is t i.store.0 i.store.1 c.self.invariant c.args.n (2 * r.0 + 1) ∙ c.in_ok-grant.ensures.0 in
-    let d : Called (put c.args.n c.args.speed c.args.angle) (tt {0}) (t, i.store.0) (Ok (tt {0})) (placed t (set t.working c.args.n (Some r')), q.0)
-    = accepted t i.store.0 (put c.args.n c.args.speed c.args.angle) (tt {0})
+    let T = there t i.store.0 q c.self.invariant c.args.n r r' _ _ c.args.speed c.args.angle c.in_ok-root.ensures.1.0 at c.in_ok-root.ensures.2
+    (c.payload.ensures ∙ ap payload_of (c.in_ok-root.ensures.3 ∙ to_z-of_z w32 c.args.angle c.ranges.angle)) e.edited.2 e.root e.good in
+    let l : late (shape t i.store.0.0) (put c.args.n c.args.speed c.args.angle) ≡ None
+    = ap (λ (h : ℕ). needs (shape t i.store.0.0) c.args.n (2 * h + 1)) (high t i.store.0.0 i.store.0.1 c.self.invariant c.args.n r at)
+    ∙ needs_is t i.store.0.0 i.store.0.1 c.self.invariant c.args.n (2 * r.0 + 1) ∙ c.in_ok-grant.ensures.0 in
+    let d : Called (put c.args.n c.args.speed c.args.angle) (tt {0}) (t, i.store.0.0) (Ok (tt {0})) (placed t (set t.working c.args.n (Some r')), q.0)
+    = accepted t i.store.0.0 (put c.args.n c.args.speed c.args.angle) (tt {0})
     (ap (λ (v : Tables × Meaning). early (has v.0.working) (put c.args.n c.args.speed c.args.angle)) c.self.view_is
     ∙ subst (λ (a : ℤ). early (has c.args.self.now.0.working) (put c.args.n c.args.speed a) ≡ None) (to_z-of_z w32 c.args.angle c.ranges.angle) c.in_ok-root.ensures.0) l T.os (placed t (set t.working c.args.n (Some r'))) q.0 T.trace T.effect in
     subst (λ (t' : Tables). Called (put c.args.n c.args.speed c.args.angle) (tt {0}) c.args.self.now (Ok (tt {0})) (t', q.0)) (sym (tables_set i.working i.committed i.generation c.args.n (Some c.put_tree.result)))

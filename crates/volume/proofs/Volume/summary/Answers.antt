@@ -20,11 +20,11 @@ summary-requires g c =
     let i = c.self.inside in
     let t : Tables = tables i.working i.committed i.generation in
     let r : Root = (c.in_ok-root.root.height, c.in_ok-root.root.block) in
-    good t i.store c.self.invariant c.args.n r (placed_here c.args.n c.self.view_is c.in_ok-root.ensures.1.1) c.in_ok-root.ensures.1.0
+    good t i.store.0 c.self.invariant c.args.n r (placed_here c.args.n c.self.view_is c.in_ok-root.ensures.1.1) c.in_ok-root.ensures.1.0
 
 pub returns : goal.returns
 returns g c k =
     let i = c.self.inside in
     let t : Tables = tables i.working i.committed i.generation in
-    read_called c.args.self.now (t, i.store.0) (t, c.summary.new.store.0) c.args.n (c.in_ok-root.root.height, c.in_ok-root.root.block) c.self.view_is (ap (λ (q : State). (t, q.0)) c.summary.ensures.kept) c.in_ok-root.ensures.1.1
+    read_called c.args.self.now (t, i.store.0.0) (t, c.summary.new.store.0.0) c.args.n (c.in_ok-root.root.height, c.in_ok-root.root.block) c.self.view_is (ap (λ (q : State). (t, q.0)) c.summary.ensures.kept) c.in_ok-root.ensures.1.1
     (summary_of g.S.Summary.summing) c.summary.result c.summary.ensures.answer (summary k c.args.n) c.in_ok-root.ensures.0 refl (refl, refl)

@@ -15,11 +15,11 @@ pub invariant_of-self : goal.invariant_of-self
 invariant_of-self g c =
     let i = c.self.inside in
     let t : Tables = tables i.working i.committed i.generation in
-    subst (Kept t) (sym (after t i.store c.write.new.self (i.generation + 1) (omega arith) c.write.ensures)) (kept_slot t i.store c.self.invariant (suc t.generation, t.working))
+    subst (Kept t) (sym (after t i.store.0 c.write.new.self.0 (i.generation + 1) (omega arith) c.write.ensures.state)) (kept_slot t i.store.0 c.self.invariant (suc t.generation, t.working))
 
 pub returns : goal.returns
 returns g c =
     let i = c.self.inside in
     let t : Tables = tables i.working i.committed i.generation in
-    subst (λ (v : Tables × Meaning). (t, c.write.new.self.0) ≡ (v.0, with_slot v.1 (suc v.0.generation, v.0.working))) c.self.view_is
-    (ap (λ (q : State). (t, q.0)) (after t i.store c.write.new.self (i.generation + 1) (omega arith) c.write.ensures))
+    subst (λ (v : Tables × Meaning). (t, c.write.new.self.0.0) ≡ (v.0, with_slot v.1 (suc v.0.generation, v.0.working))) c.self.view_is
+    (ap (λ (q : State). (t, q.0)) (after t i.store.0 c.write.new.self.0 (i.generation + 1) (omega arith) c.write.ensures.state))

@@ -2,7 +2,6 @@ use Rattle.std.proofs.Common.{◌≡◌, ℕ, ◌<◌, ◌≤◌, List, length, 
 use Rattle.std.proofs.lemmas.Bool.{cases_lt}
 use Rattle.std.proofs.lemmas.List.{get_or_past}
 use Rattle.counts.proofs.Hints.{after_open}
-use Rattle.device.specs.Meaning.{Meaning}
 use Rattle.page.specs.Block.{kids_of}
 use Rattle.page.specs.View.{view}
 use Rattle.counts.specs.Counts.{Roomy}
@@ -12,8 +11,8 @@ use Rattle.counts.proofs.store.Store.open_page.Goals as goal
 pub open-requires : goal.open-requires
 open-requires g c =
     let o = c.requires.owned in
-    let cs : List ℕ = c.args.self.now.1 in
-    let same : cs ≡ c.self.inside.counts.of.items = ap (λ (q : Meaning × List ℕ). q.1) (sym c.self.view_is) in
+    let cs : List ℕ = c.args.self.now.0.1 in
+    let same : cs ≡ c.self.inside.counts.of.items = ap (λ q. q.0.1) (sym c.self.view_is) in
     let few : length cs ≤ 4096 = omega (arith, ap length same, c.self.invariant.1.0, (g.met.D.Device.fit c.self.inside.device).limits.few) in
     record {
       room = subst (λ ds. Roomy (kids_of (Some (view c.args.page.now))) ds) same (subst (λ o. Roomy (kids_of o) cs) c.requires.holds (roomy _ cs o.others c.args.block o.counted o.modest few));
@@ -28,8 +27,8 @@ freed-self-inside-requires-clause-within g c =
     let cs : List ℕ = c.self.inside.counts.of.items in
     let ks : List ℕ = kids_of (Some (view c.args.page.now)) in
     let o = c.requires.owned in
-    let same : c.args.self.now.1 ≡ cs = ap (λ (q : Meaning × List ℕ). q.1) (sym c.self.view_is) in
-    omega (arith, within c.args.block cs (subst (λ ds. 0 < get_or ds c.args.block 0) same (held_alive _ c.args.self.now.1 o.others c.args.block o.counted)), ap length c.open.ensures, length_opened ks c.args.block cs)
+    let same : c.args.self.now.0.1 ≡ cs = ap (λ q. q.0.1) (sym c.self.view_is) in
+    omega (arith, within c.args.block cs (subst (λ ds. 0 < get_or ds c.args.block 0) same (held_alive _ c.args.self.now.0.1 o.others c.args.block o.counted)), ap length c.open.ensures, length_opened ks c.args.block cs)
 
 pub freed-self-inside-requires-clause-others : goal.freed-self-inside-requires-clause-others
 freed-self-inside-requires-clause-others g c =
