@@ -30,7 +30,7 @@ look_valid s v [] a e = absurd (none-some v e)
 look_valid s v (x ∷ r) a e = by_head s v x r (eqb s x.0) a.0.1 (λ q. look_valid s v r a.1 q) e
 
 pub returns-in_err-payload-clause-calls : goal.returns-in_err-payload-clause-calls
-returns-in_err-payload-clause-calls g c = c.loop-page.invariant.calls
+returns-in_err-payload-clause-calls g c = c.descend.ensures.calls
 
 pub returns-in_err-payload-clause-answer : goal.returns-in_err-payload-clause-answer
 returns-in_err-payload-clause-answer g c =
@@ -41,7 +41,7 @@ pub stored_angle-requires : goal.stored_angle-requires
 stored_angle-requires g c = omega (arith, look_valid c.args.speed c.in_ok-payload.payload c.descend.new.page.entries c.descend.ensures.found.valid (sym c.find.ensures ∙ c.in_ok-payload.was))
 
 pub returns-clause-calls : goal.returns-clause-calls
-returns-clause-calls g c = c.loop-page.invariant.calls
+returns-clause-calls g c = c.descend.ensures.calls
 
 pub returns-clause-answer : goal.returns-clause-answer
 returns-clause-answer g c =
