@@ -5,7 +5,6 @@ use anyhow::anyhow;
 use device::Device;
 use medium::Words;
 use model::Refusal;
-use std::alloc::Global;
 use std::time::Instant;
 use std::{fmt, io};
 use volume::Volume;
@@ -72,16 +71,16 @@ fn angle_of(i: u32) -> i32 {
 }
 
 // Mounts the volume that a device holds.
-fn mount<D: Device + Drop>(heap: Global, device: Tally<D>) -> anyhow::Result<Volume<Tally<D>>> {
-    match Volume::mount(heap, device) {
+fn mount<D: Device + Drop>(device: Tally<D>) -> anyhow::Result<Volume<Tally<D>>> {
+    match Volume::mount(device) {
         Ok(volume) => Ok(volume),
         Err((_, refusal)) => Err(anyhow!("the volume does not mount: {refusal}")),
     }
 }
 
 // A committed volume whose clone 0 has so many rows.
-fn fill<D: Device + Drop>(heap: Global, device: Tally<D>, rows: u32) -> anyhow::Result<Tally<D>> {
-    let Ok(mut volume) = Volume::format(heap, device) else {
+fn fill<D: Device + Drop>(device: Tally<D>, rows: u32) -> anyhow::Result<Tally<D>> {
+    let Ok(mut volume) = Volume::format(device) else {
         return Err(anyhow!("the memory cannot be formatted"));
     };
     volume.create(0)?;
@@ -117,7 +116,7 @@ impl Bench<'_> {
     fn mount<D: Device + Drop>(&self, mut device: Tally<D>) -> anyhow::Result<(Tally<D>, u64)> {
         device.reset();
         let start = Instant::now(self.rt)?;
-        let device = mount(self.rt.alloc(), device)?.into_device();
+        let device = mount(device)?.into_device();
         let spent = start.elapsed(self.rt)?;
         let read = device.read;
         let cost = Cost {
@@ -138,7 +137,7 @@ impl Bench<'_> {
         mounting: u64,
     ) -> anyhow::Result<Tally<D>> {
         device.reset();
-        let mut volume = mount(self.rt.alloc(), device)?;
+        let mut volume = mount(device)?;
         let start = Instant::now(self.rt)?;
         for i in 0..TIMES {
             call.make(&mut volume, self.rows, i)?;
@@ -157,7 +156,7 @@ impl Bench<'_> {
 
     // Measures each call, and gives the device back.
     fn run_on<D: Device + Drop>(&self, device: D) -> anyhow::Result<Tally<D>> {
-        let device = fill(self.rt.alloc(), Tally::new(device), self.rows)?;
+        let device = fill(Tally::new(device), self.rows)?;
         let (mut device, mounting) = self.mount(device)?;
         for call in CALLS {
             device = self.repeat(device, call, mounting)?;
@@ -167,6 +166,7 @@ impl Bench<'_> {
 
     // Measures each call in memory.
     pub(crate) fn run(&self) -> anyhow::Result<()> {
+        Words::check(BLOCKS, WIDTH)?;
         let mut words = Words::blank(self.rt.alloc(), BLOCKS, WIDTH)?;
         let rows = self.rows;
         println!(self.rt; "{rows} rows:")?;

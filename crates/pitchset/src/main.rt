@@ -15,17 +15,18 @@ const WIDTH: u32 = 32;
 const RECORDS: u32 = 200;
 
 fn run(rt: &HostRuntime) -> anyhow::Result<()> {
+    Sides::check(BLOCKS, WIDTH, RECORDS)?;
     let mut sides = Sides::blank(rt.alloc(), BLOCKS, WIDTH, RECORDS)?;
     println!(rt;
         "pile: a mirror of (check over memory) and (check over log), {BLOCKS} blocks of {WIDTH} words"
     )?;
-    let pile = sides.open(rt.alloc())?;
+    let pile = sides.open()?;
     planner::before_the_cut(rt, pile)?;
     sides.lose_power();
     println!(rt;
         "The power fails. Of the memory only the persisted words are left, of the log its image."
     )?;
-    let pile = sides.open(rt.alloc())?;
+    let pile = sides.open()?;
     planner::after_the_cut(rt, pile)?;
     Ok(())
 }

@@ -7,7 +7,7 @@ mod session;
 mod stop;
 
 use line::{Lines, Pile, parse_pile};
-use medium::{Fault, Sides, Words};
+use medium::{Sides, Words};
 use session::replay;
 use std::alloc::Global;
 use std::io::Read;
@@ -19,6 +19,7 @@ fn play(heap: Global, out: &mut String, text: &[u8]) -> Result<(), Stop> {
     let first = script.next().ok_or(Stop::BadLine)?;
     match parse_pile(heap, first)?.ok_or(Stop::BadLine)? {
         Pile::Memory { blocks, width } => {
+            Words::check(blocks, width)?;
             let mut words = Words::blank(heap, blocks, width)?;
             replay(heap, out, words.open()?, script)?;
         },
@@ -27,8 +28,9 @@ fn play(heap: Global, out: &mut String, text: &[u8]) -> Result<(), Stop> {
             width,
             records,
         } => {
+            Sides::check(blocks, width, records)?;
             let mut sides = Sides::blank(heap, blocks, width, records)?;
-            replay(heap, out, sides.open(heap)?, script)?;
+            replay(heap, out, sides.open()?, script)?;
         },
     }
     Ok(())
@@ -43,7 +45,7 @@ fn run(rt: &HostRuntime) -> anyhow::Result<()> {
     print!(rt; "{out}")?;
     match ended {
         Ok(()) => Ok(()),
-        Err(Stop::Unmade(Fault::NoMemory)) => Err(Fault::NoMemory.into()),
+        Err(Stop::Unallocated(error)) => Err(error.into()),
         Err(stop) => {
             println!(rt; "{stop}")?;
             Ok(())

@@ -6,7 +6,6 @@ use log_device::Log;
 use medium::{Fault, GARBAGE};
 use memory::{Memory, Slices};
 use mirror::Mirror;
-use std::alloc::Global;
 
 // What became of a patch.
 #[derive(Clone, Copy)]
@@ -20,7 +19,7 @@ pub(crate) enum Patched {
 
 pub(crate) trait Restart: Device + Drop + Sized {
     // The devices, opened again after a cut of the power.
-    fn restart(self, heap: Global, cut: Cut) -> Result<Self, Fault>;
+    fn restart(self, cut: Cut) -> Result<Self, Fault>;
 
     // The devices, opened again over other words where these are for a script to write.
     fn overwrite(self, _: &Patch) -> Result<(Self, Patched), Fault> {
@@ -29,7 +28,7 @@ pub(crate) trait Restart: Device + Drop + Sized {
 }
 
 impl<'a> Restart for Memory<'a> {
-    fn restart(mut self, _: Global, cut: Cut) -> Result<Memory<'a>, Fault> {
+    fn restart(mut self, cut: Cut) -> Result<Memory<'a>, Fault> {
         let width = self.width() as usize;
         if cut == Cut::New {
             self.flush();
@@ -82,28 +81,28 @@ fn put(persisted: &mut [u32], width: usize, patch: &Patch) -> Patched {
 }
 
 impl<'a> Restart for Log<'a> {
-    fn restart(mut self, heap: Global, cut: Cut) -> Result<Log<'a>, Fault> {
+    fn restart(mut self, cut: Cut) -> Result<Log<'a>, Fault> {
         let blocks = self.blocks();
         let width = self.width() as usize;
         if cut == Cut::New {
             self.flush();
         }
-        Ok(Log::open(heap, self.into_image(), blocks, width)?)
+        Ok(Log::open(self.into_image(), blocks, width)?)
     }
 }
 
 impl<D: Restart> Restart for Check<D> {
-    fn restart(self, heap: Global, cut: Cut) -> Result<Check<D>, Fault> {
-        let below = self.into_below().restart(heap, cut)?;
+    fn restart(self, cut: Cut) -> Result<Check<D>, Fault> {
+        let below = self.into_below().restart(cut)?;
         Ok(Check::build(below)?)
     }
 }
 
 impl<A: Restart, B: Restart> Restart for Mirror<A, B> {
-    fn restart(self, heap: Global, cut: Cut) -> Result<Mirror<A, B>, Fault> {
+    fn restart(self, cut: Cut) -> Result<Mirror<A, B>, Fault> {
         let (first, second) = self.into_parts();
-        let first = first.restart(heap, cut)?;
-        let second = second.restart(heap, cut)?;
+        let first = first.restart(cut)?;
+        let second = second.restart(cut)?;
         Ok(Mirror::build(first, second)?)
     }
 }

@@ -12,13 +12,10 @@ pub(crate) enum Stop {
     // There are no such devices.
     #[error("{0}")]
     Unmade(#[from] Fault),
+    // The allocator has no room for a buffer.
+    #[error("{0}")]
+    Unallocated(#[from] AllocError),
     // The devices cannot be formatted.
     #[error("{0}")]
     Unformatted(Refusal),
-}
-
-impl From<AllocError> for Stop {
-    fn from(error: AllocError) -> Stop {
-        Stop::Unmade(Fault::from(error))
-    }
 }
