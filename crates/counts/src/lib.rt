@@ -70,13 +70,6 @@ impl Counts {
         self.of[block as usize] = count;
     }
 
-    // Takes all references away.
-    pub fn clear(&mut self)
-        ensures { self.new.of.items ≡ replicate (array_vec_len self.old.of) 0 }
-    {
-        self.of.as_mut_slice().fill(0);
-    }
-
     // One reference more to a block; whether it is the first.
     pub fn retain(&mut self, block: u32) -> bool
         requires within { block < array_vec_len self.old.of }

@@ -16,11 +16,11 @@ use Rattle.model.proofs.Right.{histories}
 use Rattle.table.specs.declared.pair.Pair.{Pair}
 use Rattle.table.specs.Summary.{Summing}
 use Rattle.reads.specs.Summary.{summary_of}
-use Rattle.history.specs.declared.call.Answer.{Answer as Given}
-use Rattle.history.specs.declared.call.Denied.{Denied}
-use Rattle.history.specs.declared.call.Denied.TheVariants.{OutOfTurn, Refused}
-use Rattle.history.specs.Calls.{answer_of, summed}
-use Rattle.history.specs.Machine.{Stepped, Outcome}
+use Rattle.volume.specs.declared.call.Answer.{Answer as Given}
+use Rattle.volume.specs.declared.call.Denied.{Denied}
+use Rattle.volume.specs.declared.call.Denied.TheVariants.{OutOfTurn, Refused}
+use Rattle.volume.specs.Calls.{answer_of, summed}
+use Rattle.volume.specs.Machine.{Stepped, Outcome}
 use Rattle.history.specs.Law.{Law, Lawful, Rows, as_rows, mapped, of_kind, EveryFamily}
 
 module _ (V : Type 0) (join : ℕ → Map → V) where

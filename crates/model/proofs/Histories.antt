@@ -480,13 +480,13 @@ finish_cut t m (suc (suc k)) κ B still fits =
     subst (λ x. Fine (cut_model κ p) down (cut κ (replay (slot_op t m ∷ flush ∷ x) m))) (sym (take_none k [] refl)) (idle_cut p κ (mounted (finished_tables t)) (replay (slot_op t m ∷ flush ∷ []) m) (finish_fine t m B fits))
 
 module _ (V : Type 0) (join : ℕ → Map → V) where
-  mounts_fine : (M : Model) (m : Meaning) (g : ℕ) (t : Table) (a : Answer V) (os : List Op) (w' : Mode) (m' : Meaning)
-      → Calm m → Kept m g t → trees (current_at m) t ≡ M.committed → g ≡ M.generation → blocks_of m ≡ M.blocks → m.left ≡ M.left → m.left_mark ≡ M.layer → m' ≡ replay os m → Mounts V join m a os w'
+  mounts_fine : (M : Model) (w : Mode) (m : Meaning) (g : ℕ) (t : Table) (a : Answer V) (os : List Op) (w' : Mode) (m' : Meaning)
+      → Calm m → Kept m g t → trees (current_at m) t ≡ M.committed → g ≡ M.generation → blocks_of m ≡ M.blocks → m.left ≡ M.left → m.left_mark ≡ M.layer → m' ≡ replay os m → Mounts V join w m a os w'
       → (a ≡ done) × Fine (working≔ M M.committed) w' m'
   unfolding Fine
-  mounts_fine M m g t a os w' m' calm K ec eg eb el ey em H =
+  mounts_fine M w m g t a os w' m' calm K ec eg eb el ey em H =
       let h : (a ≡ done) × (w' ≡ mounted (fresh (g, t)))
-      = subst (λ o. elim o as (λ _. Type 0) [ Ok x ↦ (a ≡ done) × (w' ≡ mounted (fresh x)) | Err r ↦ (a ≡ refused r) × (w' ≡ down) ]) (found_kept m g t K) H.1 in
+      = subst (λ o. elim o as (λ _. Type 0) [ Ok x ↦ (a ≡ done) × (w' ≡ mounted (fresh x)) | Err r ↦ (a ≡ refused r) × (w' ≡ w) ]) (found_kept m g t K) H.1 in
       let base : Base (fresh (g, t)) m = record { calm = calm; kept = K; len = K.len; goods = K.goods } in
       (h.0, quiet_fine (working≔ M M.committed) (mounted (fresh (g, t))) w' m m' os em (H.0, h.1) (base, λ i. record { working = ec i; committed = ec i; generation = eg i; blocks = eb i; left = el i; layer = ey i }))
 
@@ -523,7 +523,7 @@ module _ (V : Type 0) (join : ℕ → Map → V) where
   step_fine (mounted t) finish M m a os w' m' f S = absurd S.1
   step_fine (mounted t) reopen M m a os w' m' f S = absurd S.1
   step_fine (mounted t) mount M m a os w' m' f S =
-      mounts_fine M m t.generation t.committed a os w' m' f.0.calm f.0.kept (ap (λ x. x.committed) f.1) (ap (λ x. x.generation) f.1) (ap (λ x. x.blocks) f.1) (ap (λ x. x.left) f.1) (ap (λ x. x.layer) f.1) S.0 S.1
+      mounts_fine M (mounted t) m t.generation t.committed a os w' m' f.0.calm f.0.kept (ap (λ x. x.committed) f.1) (ap (λ x. x.generation) f.1) (ap (λ x. x.blocks) f.1) (ap (λ x. x.left) f.1) (ap (λ x. x.layer) f.1) S.0 S.1
   step_fine (sealed t) (ask q) M m a os w' m' f S = absurd S.1
   step_fine (sealed t) finish M m a os w' m' f S =
       let e : m' ≡ replay (slot_op t m ∷ flush ∷ []) m = S.0 ∙ ap (λ x. replay x m) S.1.1 in
@@ -533,7 +533,7 @@ module _ (V : Type 0) (join : ℕ → Map → V) where
   step_fine down (ask q) M m a os w' m' f S = absurd S.1
   step_fine down finish M m a os w' m' f S = absurd S.1
   step_fine down reopen M m a os w' m' f S = absurd S.1
-  step_fine down mount M m a os w' m' f S = mounts_fine M m f.1.0 f.1.1 a os w' m' f.0 f.1.2 f.1.3 f.1.4 f.1.5 f.1.6 f.1.7 S.0 S.1
+  step_fine down mount M m a os w' m' f S = mounts_fine M down m f.1.0 f.1.1 a os w' m' f.0 f.1.2 f.1.3 f.1.4 f.1.5 f.1.6 f.1.7 S.0 S.1
 
   pub broke_fine : (w : Mode) (c : Call) (M : Model) (m : Meaning) (a : Answer V) (os : List Op) (w' : Mode) (m' : Meaning) (k : ℕ) (κ : Cutting) → Fine M w m → Step V join w m c a os w' m'
       → Fine (cut_model κ (broken M c k κ)) down (cut κ (replay (take k os) m))

@@ -88,13 +88,13 @@ module _ (V : Type 0) (join : ℕ → Map → V) where
       go (Some r) e = (refused r, [], mounted t, m, (refl, (refl, (refl, refl))))
       go None e = let y = can t m B q e in (answer V join (maps_of (model_of t m).working) q, y.0, y.1, replay y.0 m, (refl, (refl, y.2)))
 
-  can_mount : (w : Mode) (m : Meaning) → (a : Answer V) × (os : List Op) × (w' : Mode) × (m' : Meaning) × ((m' ≡ replay os m) × Mounts V join m a os w')
+  can_mount : (w : Mode) (m : Meaning) → (a : Answer V) × (os : List Op) × (w' : Mode) × (m' : Meaning) × ((m' ≡ replay os m) × Mounts V join w m a os w')
   can_mount w m = go (found m) refl
     where
       go : (o : Result (ℕ × Table) Refusal) → found m ≡ o
-          → (a : Answer V) × (os : List Op) × (w' : Mode) × (m' : Meaning) × ((m' ≡ replay os m) × ((os ≡ []) × elim o as (λ _. Type 0) [ Ok x ↦ (a ≡ done) × (w' ≡ mounted (fresh x)) | Err r ↦ (a ≡ refused r) × (w' ≡ down) ]))
+          → (a : Answer V) × (os : List Op) × (w' : Mode) × (m' : Meaning) × ((m' ≡ replay os m) × ((os ≡ []) × elim o as (λ _. Type 0) [ Ok x ↦ (a ≡ done) × (w' ≡ mounted (fresh x)) | Err r ↦ (a ≡ refused r) × (w' ≡ w) ]))
       go (Ok x) e = (done, [], mounted (fresh x), m, (refl, (refl, (refl, refl))))
-      go (Err r) e = (refused r, [], down, m, (refl, (refl, (refl, refl))))
+      go (Err r) e = (refused r, [], w, m, (refl, (refl, (refl, refl))))
 
   possible : (w : Mode) (c : Call) (M : Model) (m : Meaning) → Fine M w m → Turn w c → Next w m c
   unfolding Fine

@@ -151,15 +151,16 @@ Formatted m =
     × (current_at m 1 ≡ words (slot_words m.width 1 blank))
 
 module _ (V : Type 0) (join : ℕ → Map → V) where
-  abbrev pub Mounts : Meaning → Answer V → List Op → Mode → Type 0
-  Mounts m a os w' =
-      (os ≡ []) × elim (found m) [ Ok x ↦ (a ≡ done) × (w' ≡ mounted (fresh x)) | Err r ↦ (a ≡ refused r) × (w' ≡ down) ]
+  -- a mount from mode w; where it is refused, that mode stays
+  abbrev pub Mounts : Mode → Meaning → Answer V → List Op → Mode → Type 0
+  Mounts w m a os w' =
+      (os ≡ []) × elim (found m) [ Ok x ↦ (a ≡ done) × (w' ≡ mounted (fresh x)) | Err r ↦ (a ≡ refused r) × (w' ≡ w) ]
 
   abbrev pub Does : Mode → Meaning → Call → Answer V → List Op → Mode → Meaning → Type 0
   Does (mounted t) m (ask q) a os w' m' = Asked refused (answer V join (maps_of (model_of t m).working) q) t m q a os w' m'
   Does (mounted t) m finish a os w' m' = ⊥
   Does (mounted t) m reopen a os w' m' = ⊥
-  Does (mounted t) m mount a os w' m' = Mounts m a os w'
+  Does (mounted t) m mount a os w' m' = Mounts (mounted t) m a os w'
   Does (sealed t) m (ask q) a os w' m' = ⊥
   Does (sealed t) m finish a os w' m' =
       (a ≡ done) × (os ≡ finishing t m.width) × (w' ≡ mounted (finished_tables t))
@@ -168,7 +169,7 @@ module _ (V : Type 0) (join : ℕ → Map → V) where
   Does down m (ask q) a os w' m' = ⊥
   Does down m finish a os w' m' = ⊥
   Does down m reopen a os w' m' = ⊥
-  Does down m mount a os w' m' = Mounts m a os w'
+  Does down m mount a os w' m' = Mounts down m a os w'
 
   -- one call: what it answers, its device calls, and what it leaves
   abbrev pub Step : Mode → Meaning → Call → Answer V → List Op → Mode → Meaning → Type 0

@@ -2,8 +2,9 @@
 use super::report::{Column, Hundredths, Totals, print_columns, print_totals};
 use anyhow::anyhow;
 use device::Device;
-use history::{Answer, Ask, Call, Denied, Machine, perform};
+use history::perform;
 use table::Pair;
+use volume::{Answer, Ask, Call, Denied, Machine};
 
 // The pitch of a 5 MW turbine type over the wind speed, in hundredths of a metre per second and of a degree.
 const TYPE_TABLE: [(u32, i32); 13] = [
@@ -145,76 +146,61 @@ fn print_answer(rt: &HostRuntime, call: Call, answer: Answered) -> anyhow::Resul
 }
 
 // Asks a machine.
-fn ask<D: Device>(machine: Machine<D>, ask: Ask) -> (Machine<D>, Answered) {
+fn ask<D: Device>(machine: &mut Machine<D>, ask: Ask) -> Answered {
     perform(machine, Call::Ask(ask), &mut [])
 }
 
 // Makes the calls one after the other, and prints each with its answer.
 fn make<D: Device + Drop>(
     rt: &HostRuntime,
-    mut machine: Machine<D>,
+    machine: &mut Machine<D>,
     calls: &[Call],
-) -> anyhow::Result<Machine<D>> {
+) -> anyhow::Result<()> {
     for call in calls {
-        let (next, answer) = perform(machine, *call, &mut []);
+        let answer = perform(machine, *call, &mut []);
         print_answer(rt, *call, answer)?;
-        machine = next;
     }
-    Ok(machine)
+    Ok(())
 }
 
 // Puts the type's table into clone 0.
-fn put_type<D: Device + Drop>(
-    rt: &HostRuntime,
-    mut machine: Machine<D>,
-) -> anyhow::Result<Machine<D>> {
+fn put_type<D: Device + Drop>(rt: &HostRuntime, machine: &mut Machine<D>) -> anyhow::Result<()> {
     for (speed, angle) in &TYPE_TABLE {
         let put = Ask::Put {
             clone: 0,
             speed: *speed,
             angle: *angle,
         };
-        let (next, answer) = ask(machine, put);
-        answer?;
-        machine = next;
+        ask(machine, put)?;
     }
     let rows = TYPE_TABLE.len();
     println!(rt; "    put {rows} rows into clone 0: ok")?;
-    Ok(machine)
+    Ok(())
 }
 
 // Creates clones without rows until one is refused, and deletes them.
-fn fill_up<D: Device + Drop>(
-    rt: &HostRuntime,
-    mut machine: Machine<D>,
-) -> anyhow::Result<Machine<D>> {
+fn fill_up<D: Device + Drop>(rt: &HostRuntime, machine: &mut Machine<D>) -> anyhow::Result<()> {
     for clone in 4..24 {
         let create = Ask::Create { clone };
-        let (next, answer) = ask(machine, create);
-        machine = next;
+        let answer = ask(machine, create);
         if answer.is_err() {
             print_answer(rt, Call::Ask(create), answer)?;
             break;
         }
     }
     for clone in 4..24 {
-        let (next, _) = ask(machine, Ask::Delete { clone });
-        machine = next;
+        let _ = ask(machine, Ask::Delete { clone });
     }
-    Ok(machine)
+    Ok(())
 }
 
 // Lists the clones, side by side.
-fn compare<D: Device + Drop>(
-    rt: &HostRuntime,
-    mut machine: Machine<D>,
-) -> anyhow::Result<Machine<D>> {
+fn compare<D: Device + Drop>(rt: &HostRuntime, machine: &mut Machine<D>) -> anyhow::Result<()> {
     let mut columns = Vec::new(rt.alloc());
     for clone in CLONES {
         let list = Call::Ask(Ask::List { clone, speed: 0 });
         let mut rows = vec![in rt.alloc(); Pair::default(); 32]?;
-        let (next, answer): (Machine<D>, Answered) = perform(machine, list, &mut rows);
-        machine = next;
+        let answer: Answered = perform(machine, list, &mut rows);
         let Answer::Listed(count) = answer? else {
             return Err(anyhow!("a list is answered by rows"));
         };
@@ -222,39 +208,40 @@ fn compare<D: Device + Drop>(
         columns.push(Column { clone, rows })?;
     }
     print_columns(rt, rt.alloc(), &columns)?;
-    Ok(machine)
+    Ok(())
 }
 
 // Formats the device, keeps the type's table and its turbines' on it, commits, and changes them once more.
 pub(crate) fn before_the_cut<D: Device + Drop>(rt: &HostRuntime, device: D) -> anyhow::Result<D> {
-    let Ok(machine) = Machine::format(device) else {
+    let Ok(mut machine) = Machine::format(device) else {
         return Err(anyhow!("the pile cannot be formatted"));
     };
     println!(rt;
         "The type's table, two turbines of the type, and a third that is copied from the second:"
     )?;
-    let machine = make(rt, machine, &[Call::Ask(Ask::Create { clone: 0 })])?;
-    let machine = put_type(rt, machine)?;
-    let machine = make(rt, machine, &COPYING)?;
+    make(rt, &mut machine, &[Call::Ask(Ask::Create { clone: 0 })])?;
+    put_type(rt, &mut machine)?;
+    make(rt, &mut machine, &COPYING)?;
     println!(rt; "Rows are changed in 1 and 3, and one is removed from 2:")?;
-    let machine = make(rt, machine, &CHANGING)?;
+    make(rt, &mut machine, &CHANGING)?;
     println!(rt; "Each has its own changes, and no other's:")?;
-    let machine = compare(rt, machine)?;
+    compare(rt, &mut machine)?;
     println!(rt; "What is refused:")?;
-    let machine = make(rt, machine, &REFUSED)?;
-    let machine = fill_up(rt, machine)?;
+    make(rt, &mut machine, &REFUSED)?;
+    fill_up(rt, &mut machine)?;
     println!(rt; "Committed:")?;
-    let machine = make(rt, machine, &COMMITTING)?;
+    make(rt, &mut machine, &COMMITTING)?;
     println!(rt; "Changed, and not committed:")?;
-    let machine = make(rt, machine, &UNCOMMITTED)?;
+    make(rt, &mut machine, &UNCOMMITTED)?;
     Ok(machine.into_device())
 }
 
 // Mounts what the cut left: what was committed, whole.
 pub(crate) fn after_the_cut<D: Device + Drop>(rt: &HostRuntime, device: D) -> anyhow::Result<D> {
-    let machine = make(rt, Machine::Down(device), &[Call::Mount])?;
+    let mut machine = Machine::Down(device);
+    make(rt, &mut machine, &[Call::Mount])?;
     println!(rt; "What was committed is there, whole:")?;
-    let machine = compare(rt, machine)?;
-    let machine = make(rt, machine, &READING)?;
+    compare(rt, &mut machine)?;
+    make(rt, &mut machine, &READING)?;
     Ok(machine.into_device())
 }

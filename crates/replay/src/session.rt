@@ -3,9 +3,10 @@ use super::line::{Cut, Line, Lines, Patch, parse};
 use super::power::{Patched, Restart};
 use super::stop::Stop;
 use device::Device;
-use history::{Answer, Ask, Call, Denied, Machine, perform};
+use history::perform;
 use std::alloc::{AllocError, Global};
 use table::{Count, Pair, Span, Sum, Summary};
+use volume::{Answer, Ask, Call, Denied, Machine};
 
 // How many rows there is room for at most.
 const ROWS: u32 = 10_000;
@@ -69,25 +70,23 @@ fn print_rows(out: &mut String, count: usize, rows: &[Pair]) -> Result<(), Alloc
 fn make<S: Shown, D: Device + Drop>(
     heap: Global,
     out: &mut String,
-    machine: Machine<D>,
+    machine: &mut Machine<D>,
     call: Call,
     room: u32,
-) -> Result<Machine<D>, Stop> {
+) -> Result<(), Stop> {
     let mut rows = vec![in heap; Pair::default(); room.min(ROWS) as usize]?;
-    let (machine, answer): (Machine<D>, Result<Answer<S>, Denied>) = perform(
-        machine, call, &mut rows,
-    );
+    let answer: Result<Answer<S>, Denied> = perform(machine, call, &mut rows);
     print_answer(out, answer, &rows)?;
-    Ok(machine)
+    Ok(())
 }
 
 // Makes a call for a summary, and prints it.
 fn sum_up<S: Shown, D: Device + Drop>(
     heap: Global,
     out: &mut String,
-    machine: Machine<D>,
+    machine: &mut Machine<D>,
     clone: u32,
-) -> Result<Machine<D>, Stop> {
+) -> Result<(), Stop> {
     make::<S, D>(heap, out, machine, Call::Ask(Ask::Summary { clone }), 0)
 }
 
@@ -108,35 +107,47 @@ fn overwrite<D: Restart>(out: &mut String, device: D, patch: &Patch) -> Result<M
     Ok(Machine::Down(device))
 }
 
-// Does what a line says.
-fn take<D: Restart>(
-    heap: Global,
+// Words of a device are for a machine that is down.
+fn patch_down<D: Restart>(
     out: &mut String,
     machine: Machine<D>,
-    line: Line,
+    patch: &Patch,
 ) -> Result<Machine<D>, Stop> {
-    match (line, machine) {
-        (Line::Call(call), machine) => make::<Count, D>(heap, out, machine, call, 0),
-        (Line::List { clone, speed, room }, machine) => {
-            let call = Call::Ask(Ask::List { clone, speed });
-            make::<Count, D>(heap, out, machine, call, room)
-        },
-        (Line::Count { clone }, machine) => sum_up::<Count, D>(heap, out, machine, clone),
-        (Line::Span { clone }, machine) => sum_up::<Span, D>(heap, out, machine, clone),
-        (Line::Sum { clone }, machine) => sum_up::<Sum, D>(heap, out, machine, clone),
-        (Line::Cut(fate), machine) => cut(out, machine, fate),
-        (Line::FinishLost, Machine::Sealed(volume)) => {
-            cut(out, Machine::Sealed(volume), Cut::Old)
-        },
-        (Line::FinishKept, Machine::Sealed(volume)) => {
-            cut(out, Machine::Mounted(volume.finish()), Cut::Old)
-        },
-        (Line::Raw(patch), Machine::Down(device)) => overwrite(out, device, &patch),
-        (Line::FinishLost | Line::FinishKept | Line::Raw(_), machine) => {
+    match machine {
+        Machine::Down(device) => overwrite(out, device, patch),
+        machine => {
             writeln!(out, "out of turn")?;
             Ok(machine)
         },
     }
+}
+
+// Does what a line says.
+fn take<D: Restart>(
+    heap: Global,
+    out: &mut String,
+    mut machine: Machine<D>,
+    line: Line,
+) -> Result<Machine<D>, Stop> {
+    match line {
+        Line::Call(call) => make::<Count, D>(heap, out, &mut machine, call, 0)?,
+        Line::List { clone, speed, room } => {
+            let call = Call::Ask(Ask::List { clone, speed });
+            make::<Count, D>(heap, out, &mut machine, call, room)?
+        },
+        Line::Count { clone } => sum_up::<Count, D>(heap, out, &mut machine, clone)?,
+        Line::Span { clone } => sum_up::<Span, D>(heap, out, &mut machine, clone)?,
+        Line::Sum { clone } => sum_up::<Sum, D>(heap, out, &mut machine, clone)?,
+        Line::Cut(fate) => return cut(out, machine, fate),
+        Line::FinishLost if machine.is_sealed() => return cut(out, machine, Cut::Old),
+        Line::FinishKept if machine.is_sealed() => {
+            let _: Result<Answer<Count>, Denied> = perform(&mut machine, Call::Finish, &mut []);
+            return cut(out, machine, Cut::Old);
+        },
+        Line::Raw(patch) => return patch_down(out, machine, &patch),
+        Line::FinishLost | Line::FinishKept => writeln!(out, "out of turn")?,
+    }
+    Ok(machine)
 }
 
 // Formats the devices, does what the lines say, and gives the devices back.

@@ -11,7 +11,7 @@ use Rattle.counts.proofs.Opens.{recount}
 use Rattle.counts.proofs.Steps.{alive_is_reached}
 use Rattle.model.specs.declared.refusal.Refusal.TheVariants.{Short, Worn}
 use Rattle.model.specs.Plain.{first, place}
-use Rattle.model.specs.TreeBlocks.{Tree, Change, Change.begin, Change.puts, Change.takes, changed_on, new_blocks, bare_tree, root_of, tree_at, elem, Each, Good, AllGood, Stored}
+use Rattle.model.specs.TreeBlocks.{Tree, Change, Change.puts, Change.takes, changed_on, new_blocks, root_of, tree_at, elem, Each, Good, AllGood, Stored}
 use Rattle.model.specs.Model.{used, free, height, needs, source, tree_of, new_tree}
 use Rattle.model.specs.World.{Tables, Mode.mounted, placed, model_of, shape, trees, FreeWrite, Changed, sizes}
 use Rattle.model.specs.Reach.{rootings}

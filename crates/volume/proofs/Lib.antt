@@ -7,3 +7,4 @@ pub mod Reading
 pub mod Removing
 pub mod Sealing
 pub mod Formatting
+pub mod Steps

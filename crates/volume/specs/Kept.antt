@@ -1,5 +1,5 @@
 -- What a mounted volume is, and what it keeps from call to call.
-use Rattle.std.specs.Prelude.{◌≡◌, ℕ, ◌<◌, ◌≤◌, true, List, map, length, Some, Ok, Err, Option, Result}
+use Rattle.std.specs.Prelude.{◌≡◌, ℕ, ◌<◌, ◌≤◌, List, map, length, Some, Ok, Err, Option, Result}
 use Rattle.device.specs.Meaning.{Meaning, blocks_of, current_at}
 use Rattle.device.specs.Cuts.{Op, replay}
 use Rattle.page.specs.Block.{block_at}

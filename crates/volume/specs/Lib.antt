@@ -1,2 +1,4 @@
 pub mod Kept
 pub mod Sealing
+pub mod Calls
+pub mod Machine

@@ -17,11 +17,16 @@ ghost use Rattle.reads.specs.Summary.{summary_of};
 ghost use Rattle.reads.specs.Lists.{row_in};
 ghost use Rattle.volume.specs.Kept.{Called, Stands, lacking_in, rows_of_clone};
 
+mod call;
+mod machine;
+mod printing;
 mod sealed;
 
-use counts::{Grant, Store};
+pub use call::{Answer, Ask, Call, Denied};
+use counts::{Counts, Grant, Store};
 use device::Device;
 use edit::{create_tree, put_tree};
+pub use machine::{Machine, Up};
 use model::Refusal;
 use mount::{Mounted, format_device, mount_over, mount_store, no_counts};
 use page::page::Entry;
@@ -106,22 +111,36 @@ impl<D: Device> Volume<D> {
         Ok(Volume::over(mount_store(device)?))
     }
 
-    // Mounts again what the device holds, by the memory that the counts have.
-    pub fn remount(self) -> Result<Volume<D>, (D, Refusal)>
-        ensures kept { MatchResult result (λ v. v.1 ≡ self.1) (λ e. D.Device.meaning e.0 ≡ self.1) }
+    // Mounts again what the device holds, or gives the volume back as it is with the reason why the device holds none.
+    pub fn remount(self) -> Result<Volume<D>, (Volume<D>, Refusal)>
+        ensures kept { MatchResult result (λ v. v.1 ≡ self.1) (λ e. e.0 ≡ self) }
         ensures answer { MatchResult result
             (λ v. (x : ℕ × Table) × (found self.1 ≡ Ok x) × (v.0 ≡ fresh x))
             (λ e. Off self.1 e.1) }
     {
         let Volume {
             store,
-            working: _,
-            committed: _,
-            generation: _,
+            working,
+            committed,
+            generation,
         } = self;
-        let (device, mut counts) = store.into_parts();
-        counts.clear();
-        Ok(Volume::over(mount_over(device, counts)?))
+        let (device, counts) = store.into_parts();
+        let none = Counts::none(device.blocks());
+        match mount_over(device, none) {
+            Ok(mounted) => Ok(Volume::over(mounted)),
+            Err((device, refusal)) => {
+                let store = Store::new(device, counts);
+                Err((
+                    Volume {
+                        store,
+                        working,
+                        committed,
+                        generation,
+                    },
+                    refusal,
+                ))
+            }
+        }
     }
 
     // The volume that was mounted.

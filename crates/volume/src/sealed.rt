@@ -68,11 +68,21 @@ impl<D: Device> Volume<D> {
             (λ s. (refusal (shape self.0 self.1) seal ≡ None) × (s ≡ (self.0, flushed self.1)))
             (λ e. (refusal (shape self.0 self.1) seal ≡ Some e.1) × (e.0 ≡ self)) }
     {
-        if let Err(refusal) = self.check_seal() {
-            return Err((self, refusal));
+        match self.close() {
+            Ok(()) => Ok(Sealed { volume: self }),
+            Err(refusal) => Err((self, refusal)),
         }
+    }
+
+    // Makes all that was written persist; refuses where no write is left, and then where no generation follows.
+    pub(crate) fn close(&mut self) -> Result<(), Refusal>
+        ensures { MatchResult result
+            (λ _. (refusal (shape self.old.0 self.old.1) seal ≡ None) × (self.new ≡ (self.old.0, flushed self.old.1)) × Sealable self.new)
+            (λ e. (refusal (shape self.old.0 self.old.1) seal ≡ Some e) × (self.new ≡ self.old)) }
+    {
+        self.check_seal()?;
         self.flush();
-        Ok(Sealed { volume: self })
+        Ok(())
     }
 
     // Refuses where no write is left, and then where no generation follows.
@@ -120,6 +130,16 @@ impl<D: Device> Volume<D> {
         self.committed[n] = self.working[n];
     }
 
+    // Commits the working tables: the slot of the next generation holds their roots.
+    pub(crate) fn advance(&mut self)
+        requires { Sealable self.old }
+        ensures { self.new ≡ (finished_tables self.old.0, replay (finishing self.old.0 self.old.1.width) self.old.1) }
+    {
+        self.write_next();
+        self.flush();
+        self.commit();
+    }
+
     // Begins the next generation: the working places are committed.
     fn commit(&mut self)
         requires { self.old.0.generation < 268435455 }
@@ -138,9 +158,7 @@ impl<D: Device> Sealed<D> {
         ensures { result ≡ (finished_tables self.0, replay (finishing self.0 self.1.width) self.1) }
     {
         let Sealed { mut volume } = self;
-        volume.write_next();
-        volume.flush();
-        volume.commit();
+        volume.advance();
         volume
     }
 

@@ -6,12 +6,12 @@ use Rattle.reads.specs.Lists.{row_in}
 use Rattle.reads.specs.Summary.{summary_of}
 use Rattle.model.specs.Plain as plain
 use Rattle.model.specs.Plain.{Map}
-use Rattle.history.specs.declared.call.Ask.{Ask}
-use Rattle.history.specs.declared.call.Ask.TheVariants.{Create, Clone, Delete, Put, Remove, Get, At, List as Rows, Summary}
-use Rattle.history.specs.declared.call.Call.{Call}
-use Rattle.history.specs.declared.call.Call.TheVariants.{Ask as Asking, Seal, Finish, Reopen, Mount}
-use Rattle.history.specs.declared.call.Answer.{Answer}
-use Rattle.history.specs.declared.call.Answer.TheVariants.{Done, Angle, Listed, Joined}
+use Rattle.volume.specs.declared.call.Ask.{Ask}
+use Rattle.volume.specs.declared.call.Ask.TheVariants.{Create, Clone, Delete, Put, Remove, Get, At, List as Rows, Summary}
+use Rattle.volume.specs.declared.call.Call.{Call}
+use Rattle.volume.specs.declared.call.Call.TheVariants.{Ask as Asking, Seal, Finish, Reopen, Mount}
+use Rattle.volume.specs.declared.call.Answer.{Answer}
+use Rattle.volume.specs.declared.call.Answer.TheVariants.{Done, Angle, Listed, Joined}
 use Rattle.model.specs.declared.refusal.Refusal.{Refusal}
 
 -- k: how many pairs the slice has that rows are listed in

@@ -1,5 +1,5 @@
 use Rattle.std.proofs.Common.{rules}
-use Rattle.history.proofs.machine.ask.Goals as goal
+use Rattle.volume.proofs.machine.ask.Goals as goal
 
 pub returns-in_err-summary-in-Summary-clause-step :
     goal.returns-in_err-summary-in-Summary-clause-step
