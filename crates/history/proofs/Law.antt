@@ -123,11 +123,11 @@ module _ {S : Type 0} (x : Summing S) where
             (told_kind (maps_of (model_of t m).working) k q, (like t m k q os w' m').1 A.1),
       )
 
-  mounts : (w : Mode) (m : Meaning) (a : Answer S) (os : List Op) (w' : Mode) → Mounts S (summed x) m a os w' → (r : Answer Map) × (a ≡ mapped (summary_of x) r) × ((k : ℕ) → Mounts Rows as_rows m (mapped (as_rows k) r) os w')
+  mounts : (w : Mode) (m : Meaning) (a : Answer S) (os : List Op) (w' : Mode) → Mounts S (summed x) w m a os w' → (r : Answer Map) × (a ≡ mapped (summary_of x) r) × ((k : ℕ) → Mounts Rows as_rows w m (mapped (as_rows k) r) os w')
   mounts w m a os w' D = go (found m) D.1
     where
-      go : (o : Result (ℕ × Table) Refusal) → elim o as (λ _. Type 0) [ Ok x ↦ (a ≡ done) × (w' ≡ mounted (fresh x)) | Err r ↦ (a ≡ refused r) × (w' ≡ down) ]
-          → (r : Answer Map) × (a ≡ mapped (summary_of x) r) × ((k : ℕ) → (os ≡ []) × elim o as (λ _. Type 0) [ Ok x ↦ (mapped (as_rows k) r ≡ done) × (w' ≡ mounted (fresh x)) | Err e ↦ (mapped (as_rows k) r ≡ refused e) × (w' ≡ down) ])
+      go : (o : Result (ℕ × Table) Refusal) → elim o as (λ _. Type 0) [ Ok x ↦ (a ≡ done) × (w' ≡ mounted (fresh x)) | Err r ↦ (a ≡ refused r) × (w' ≡ w) ]
+          → (r : Answer Map) × (a ≡ mapped (summary_of x) r) × ((k : ℕ) → (os ≡ []) × elim o as (λ _. Type 0) [ Ok x ↦ (mapped (as_rows k) r ≡ done) × (w' ≡ mounted (fresh x)) | Err e ↦ (mapped (as_rows k) r ≡ refused e) × (w' ≡ w) ])
       go (Ok x) E = (done, E.0, λ k. (D.0, (refl, E.1)))
       go (Err r) E = (refused r, E.0, λ k. (D.0, (refl, E.1)))
 
@@ -180,11 +180,11 @@ module _ (V : Type 0) (join : ℕ → Map → V) where
   valued ms (summary k n) = refl
   valued ms seal = refl
 
-  family_mounts : (m : Meaning) (a : Answer Rows) (os : List Op) (w' : Mode) → Mounts Rows as_rows m a os w' → Mounts V join m (mapped into a) os w'
-  family_mounts m a os w' D = (D.0, go (found m) D.1)
+  family_mounts : (w : Mode) (m : Meaning) (a : Answer Rows) (os : List Op) (w' : Mode) → Mounts Rows as_rows w m a os w' → Mounts V join w m (mapped into a) os w'
+  family_mounts w m a os w' D = (D.0, go (found m) D.1)
     where
-      go : (o : Result (ℕ × Table) Refusal) → elim o as (λ _. Type 0) [ Ok x ↦ (a ≡ done) × (w' ≡ mounted (fresh x)) | Err r ↦ (a ≡ refused r) × (w' ≡ down) ]
-          → elim o as (λ _. Type 0) [ Ok x ↦ (mapped into a ≡ done) × (w' ≡ mounted (fresh x)) | Err r ↦ (mapped into a ≡ refused r) × (w' ≡ down) ]
+      go : (o : Result (ℕ × Table) Refusal) → elim o as (λ _. Type 0) [ Ok x ↦ (a ≡ done) × (w' ≡ mounted (fresh x)) | Err r ↦ (a ≡ refused r) × (w' ≡ w) ]
+          → elim o as (λ _. Type 0) [ Ok x ↦ (mapped into a ≡ done) × (w' ≡ mounted (fresh x)) | Err r ↦ (mapped into a ≡ refused r) × (w' ≡ w) ]
       go (Ok x) E = (ap (mapped into) E.0, E.1)
       go (Err r) E = (ap (mapped into) E.0, E.1)
 
@@ -198,7 +198,7 @@ module _ (V : Type 0) (join : ℕ → Map → V) where
       go None A = (ap (mapped into) A.0 ∙ valued (maps_of (model_of t m).working) q, A.1)
   family_step (mounted t) m finish a os w' m' D = absurd D.1
   family_step (mounted t) m reopen a os w' m' D = absurd D.1
-  family_step (mounted t) m mount a os w' m' D = (D.0, family_mounts m a os w' D.1)
+  family_step (mounted t) m mount a os w' m' D = (D.0, family_mounts (mounted t) m a os w' D.1)
   family_step (sealed t) m (ask q) a os w' m' D = absurd D.1
   family_step (sealed t) m finish a os w' m' D = (D.0, (ap (mapped into) D.1.0, D.1.1, D.1.2))
   family_step (sealed t) m reopen a os w' m' D = (D.0, (ap (mapped into) D.1.0, D.1.1))
@@ -206,7 +206,7 @@ module _ (V : Type 0) (join : ℕ → Map → V) where
   family_step down m (ask q) a os w' m' D = absurd D.1
   family_step down m finish a os w' m' D = absurd D.1
   family_step down m reopen a os w' m' D = absurd D.1
-  family_step down m mount a os w' m' D = (D.0, family_mounts m a os w' D.1)
+  family_step down m mount a os w' m' D = (D.0, family_mounts down m a os w' D.1)
 
 pub every_family : (V : Type 0) → EveryFamily V
 every_family V join w m [] R = tt
