@@ -3,7 +3,7 @@ ghost use Rattle.std.specs.Prelude.{◌≡◌, ◌==◌, ◌+◌, ◌<◌, ◌^�
 ghost use Rattle.std.specs.Iterator.{at_most};
 ghost use Rattle.std.specs.Str.Parse.{IsNumeral, digits_value, without_leading_plus};
 
-use history::{Ask, Call};
+use volume::{Ask, Call};
 use std::alloc::{AllocError, Global};
 
 // The devices of a script, which its first line names.
