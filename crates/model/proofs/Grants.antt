@@ -60,7 +60,7 @@ good_rooted n c r g =
     (and_from (leb 1 r.0) (leb r.0 5) (le-leb 1 r.0 g.height) (le-leb r.0 5 (good_low n c r g)))
     (and_from (leb 2 r.1) (ltb r.1 n) (le-leb 2 r.1 f.inside.0.0) (lt-ltb r.1 n f.inside.0.1))
 
-goods_rooted : (n : ℕ) (c : ℕ → Content) (t : Table) → Goods n c t → every (rooted n) t ≡ true
+pub goods_rooted : (n : ℕ) (c : ℕ → Content) (t : Table) → Goods n c t → every (rooted n) t ≡ true
 goods_rooted n c [] g = refl
 goods_rooted n c (None ∷ t) g = goods_rooted n c t g
 goods_rooted n c (Some r ∷ t) g = and_from (rooted n (Some r)) (every (rooted n) t) (good_rooted n c r g.0) (goods_rooted n c t g.1)

@@ -8,3 +8,4 @@ pub mod Visits
 pub mod Slots
 pub mod Exact
 pub mod Formatting
+pub mod Lasting
