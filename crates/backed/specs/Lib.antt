@@ -1,0 +1,2 @@
+pub mod Asked
+pub mod Dirty
