@@ -8,6 +8,7 @@ ghost use Rattle.backed.specs.Asked.{Event, keeping, keeping_written};
 ghost use Rattle.backed.specs.Dirty.{Follows};
 
 mod file;
+mod header;
 
 use device::{Device, DeviceFault, Layer, LayerMark};
 
@@ -17,7 +18,9 @@ fn clean() -> [bool; 4096]
 {
     [false; 4096]
 }
-pub use file::FileBacking;
+
+pub use file::{FileBacking, SECTOR};
+pub use header::{HEADER, Header, HeaderFault, Layers};
 
 // Where contents are kept. It remembers a failure, and from then on keeps nothing more.
 pub trait Backing {
