@@ -202,7 +202,7 @@ fn with_changes(heap: Global, top: clap::Command<'_>) -> Result<clap::Command<'_
     .arg(clone_number(heap))?
     .arg(file)?
     .arg(replace)?;
-    let run = command(
+    let run = described(
         heap,
         "run",
         "Makes the calls of standard input, a line each; `commit` keeps them",

@@ -1,6 +1,6 @@
 // The files of a volume: made, opened under a lock, and handed to what was asked as a device.
 use super::command::{Command, Place};
-use super::{edit, show};
+use super::{change, show};
 use anyhow::{Context, anyhow, bail, ensure};
 use backed::{Backed, FileBacking, HEADER, Header, Layers, SECTOR};
 use check_layer::{Check, check_word};
@@ -245,7 +245,7 @@ fn mirrored<A: Device + Drop, B: Device + Drop>(
 }
 
 // Does what only looks at the tables.
-pub(crate) fn look(
+pub(crate) fn open_to_read(
     rt: &HostRuntime,
     place: &Place<'_>,
     command: &Command<'_>,
@@ -266,7 +266,7 @@ pub(crate) fn look(
 }
 
 // Does what changes the tables, and commits it.
-pub(crate) fn change(
+pub(crate) fn open_to_write(
     rt: &HostRuntime,
     place: &Place<'_>,
     command: &Command<'_>,
@@ -277,7 +277,7 @@ pub(crate) fn change(
             let mut side = open_single(rt, place.image, Access::Write)?;
             let (memory, file) = side.split()?;
             let device = checked(Backed::over(memory, FileBacking::new(file, &failed)))?;
-            edit::change(rt, device, &failed, command)
+            change::change(rt, device, &failed, command)
         },
         Some(other) => {
             let (mut first, mut second) = open_double(rt, place.image, other, Access::Write)?;
@@ -289,7 +289,7 @@ pub(crate) fn change(
             let one = checked(Backed::over(one, FileBacking::new(file, &failed)))?;
             let (two, file) = second.split()?;
             let two = checked(Backed::over(two, FileBacking::new(file, &failed)))?;
-            edit::change(rt, mirrored(one, two)?, &failed, command)
+            change::change(rt, mirrored(one, two)?, &failed, command)
         },
     }
 }

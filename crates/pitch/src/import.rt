@@ -1,5 +1,5 @@
 // Rows from CSV.
-use super::edit::Done;
+use super::change::Done;
 use anyhow::{Context, anyhow, bail, ensure};
 use csv::{ReaderBuilder, StringRecord};
 use device::Device;

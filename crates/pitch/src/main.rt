@@ -3,7 +3,7 @@
 #![tactic(auto)]
 
 mod command;
-mod edit;
+mod change;
 mod image;
 mod import;
 mod plot;
@@ -31,7 +31,7 @@ fn main(rt: HostRuntime) -> anyhow::Result<ExitCode> {
 fn run(rt: &HostRuntime, asked: &Asked<'_>) -> anyhow::Result<ExitCode> {
     match &asked.command {
         Command::Init { blocks } => image::init(rt, &asked.place, *blocks),
-        command if command.is_change() => image::change(rt, &asked.place, command),
-        command => image::look(rt, &asked.place, command),
+        command if command.is_change() => image::open_to_write(rt, &asked.place, command),
+        command => image::open_to_read(rt, &asked.place, command),
     }
 }

@@ -1,5 +1,5 @@
 // Calls from standard input, a line each.
-use super::edit::{commit, refused};
+use super::change::{commit, refused};
 use super::text::InWords;
 use anyhow::Context;
 use device::Device;
