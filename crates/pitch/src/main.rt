@@ -2,8 +2,8 @@
 // Read first: `command`, what can be asked, and `image`, how a file is opened. Used by planners.
 #![tactic(auto)]
 
-mod command;
 mod change;
+mod command;
 mod image;
 mod import;
 mod plot;

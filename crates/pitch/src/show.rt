@@ -1,6 +1,6 @@
 // What only looks at the tables.
-use super::command::{Command, Form};
 use super::change::{mount, refused};
+use super::command::{Command, Form};
 use super::plot::{Curve, picture};
 use super::survey::{Survey, has, look_over};
 use super::text::{Hundredths, InWords};
