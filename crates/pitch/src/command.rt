@@ -140,36 +140,60 @@ fn described<'a>(
         .after_help(example)
 }
 
-// The commands that change the tables.
-fn with_changes(heap: Global, top: clap::Command<'_>) -> Result<clap::Command<'_>, AllocError> {
-    let create = described(
+fn angle<'a>(heap: Global) -> Arg<'a> {
+    Arg::new(heap, "angle")
+        .required(true)
+        .allow_negative_numbers(true)
+        .value_parser(value_parser!(i32))
+        .help("The blade angle in hundredths of a degree, -9000 to 9000")
+}
+
+fn flag<'a>(heap: Global, name: &'a str, help: &'a str) -> Arg<'a> {
+    Arg::new(heap, name)
+        .long(name)
+        .action(ArgAction::SetTrue)
+        .help(help)
+}
+
+fn file<'a>(heap: Global) -> Arg<'a> {
+    Arg::new(heap, "file")
+        .required(true)
+        .help("A CSV file with the header speed,angle, in hundredths")
+}
+
+fn create_command<'a>(heap: Global) -> Result<clap::Command<'a>, AllocError> {
+    described(
         heap,
         "create",
         "Makes a clone that has no row",
         "Example: pitch park.vol create 3",
     )
-    .arg(clone_number(heap))?;
-    let copy = described(
+    .arg(clone_number(heap))
+}
+
+fn clone_command<'a>(heap: Global) -> Result<clap::Command<'a>, AllocError> {
+    described(
         heap,
         "clone",
         "Makes a copy of a clone, which shares its blocks",
         "Example: pitch park.vol clone 3 7",
     )
     .arg(number(heap, "from", "The clone to be copied, 0 to 23"))?
-    .arg(number(heap, "to", "The number of the copy, 0 to 23"))?;
-    let delete = described(
+    .arg(number(heap, "to", "The number of the copy, 0 to 23"))
+}
+
+fn delete_command<'a>(heap: Global) -> Result<clap::Command<'a>, AllocError> {
+    described(
         heap,
         "delete",
         "Makes a clone absent",
         "Example: pitch park.vol delete 7",
     )
-    .arg(clone_number(heap))?;
-    let angle = Arg::new(heap, "angle")
-        .required(true)
-        .allow_negative_numbers(true)
-        .value_parser(value_parser!(i32))
-        .help("The blade angle in hundredths of a degree, -9000 to 9000");
-    let put = described(
+    .arg(clone_number(heap))
+}
+
+fn put_command<'a>(heap: Global) -> Result<clap::Command<'a>, AllocError> {
+    described(
         heap,
         "put",
         "Sets a row",
@@ -177,74 +201,69 @@ fn with_changes(heap: Global, top: clap::Command<'_>) -> Result<clap::Command<'_
     )
     .arg(clone_number(heap))?
     .arg(speed(heap))?
-    .arg(angle)?;
-    let remove = described(
+    .arg(angle(heap))
+}
+
+fn remove_command<'a>(heap: Global) -> Result<clap::Command<'a>, AllocError> {
+    described(
         heap,
         "remove",
         "Clears a row, and prints its angle",
         "Example: pitch park.vol remove 7 400",
     )
     .arg(clone_number(heap))?
-    .arg(speed(heap))?;
-    let replace = Arg::new(heap, "replace")
-        .long("replace")
-        .action(ArgAction::SetTrue)
-        .help("Drops the clone's rows first, or makes the clone");
-    let file = Arg::new(heap, "file")
-        .required(true)
-        .help("A CSV file with the header speed,angle, in hundredths");
-    let import = described(
+    .arg(speed(heap))
+}
+
+fn import_command<'a>(heap: Global) -> Result<clap::Command<'a>, AllocError> {
+    described(
         heap,
         "import",
         "Puts the rows of a CSV file",
         "Example: pitch park.vol import 3 v90.csv",
     )
     .arg(clone_number(heap))?
-    .arg(file)?
-    .arg(replace)?;
-    let run = described(
+    .arg(file(heap))?
+    .arg(flag(
+        heap,
+        "replace",
+        "Drops the clone's rows first, or makes the clone",
+    ))
+}
+
+fn run_command<'a>(heap: Global) -> Result<clap::Command<'a>, AllocError> {
+    Ok(described(
         heap,
         "run",
         "Makes the calls of standard input, a line each; `commit` keeps them",
         "Example: printf 'put 3 400 -100\\ncommit\\n' | pitch park.vol run",
-    );
-    top.subcommand(create)?
-        .subcommand(copy)?
-        .subcommand(delete)?
-        .subcommand(put)?
-        .subcommand(remove)?
-        .subcommand(import)?
-        .subcommand(run)
+    ))
 }
 
-// The commands that print what is there.
-fn with_looks(heap: Global, top: clap::Command<'_>) -> Result<clap::Command<'_>, AllocError> {
-    let get = described(
+fn get_command<'a>(heap: Global) -> Result<clap::Command<'a>, AllocError> {
+    described(
         heap,
         "get",
         "Prints the angle of a row",
         "Example: pitch park.vol get 3 400",
     )
     .arg(clone_number(heap))?
-    .arg(speed(heap))?;
-    let at = described(
+    .arg(speed(heap))
+}
+
+fn at_command<'a>(heap: Global) -> Result<clap::Command<'a>, AllocError> {
+    described(
         heap,
         "at",
         "Prints the angle at a speed, between rows too",
         "Example: pitch park.vol at 3 820",
     )
     .arg(clone_number(heap))?
-    .arg(speed(heap))?;
-    let csv = Arg::new(heap, "csv")
-        .long("csv")
-        .action(ArgAction::SetTrue)
-        .help("As CSV, in hundredths");
-    let json = Arg::new(heap, "json")
-        .long("json")
-        .action(ArgAction::SetTrue)
-        .conflicts_with("csv")?
-        .help("As JSON, in hundredths");
-    let list = described(
+    .arg(speed(heap))
+}
+
+fn list_command<'a>(heap: Global) -> Result<clap::Command<'a>, AllocError> {
+    described(
         heap,
         "list",
         "Prints the rows of a speed or above",
@@ -252,67 +271,130 @@ fn with_looks(heap: Global, top: clap::Command<'_>) -> Result<clap::Command<'_>,
     )
     .arg(clone_number(heap))?
     .arg(speed(heap).required(false))?
-    .arg(csv)?
-    .arg(json)?;
-    let summary = described(
+    .arg(flag(heap, "csv", "As CSV, in hundredths"))?
+    .arg(flag(heap, "json", "As JSON, in hundredths").conflicts_with("csv")?)
+}
+
+fn summary_command<'a>(heap: Global) -> Result<clap::Command<'a>, AllocError> {
+    described(
         heap,
         "summary",
         "Prints how many rows, their lowest and highest angle, and the sum of angles",
         "Example: pitch park.vol summary 3 7",
     )
-    .arg(clones(heap))?;
-    let export = described(
+    .arg(clones(heap))
+}
+
+fn export_command<'a>(heap: Global) -> Result<clap::Command<'a>, AllocError> {
+    described(
         heap,
         "export",
         "Prints the rows as CSV, as import reads them",
         "Example: pitch park.vol export 3 > v90.csv",
     )
-    .arg(clone_number(heap))?;
-    let diff = described(
+    .arg(clone_number(heap))
+}
+
+fn diff_command<'a>(heap: Global) -> Result<clap::Command<'a>, AllocError> {
+    described(
         heap,
         "diff",
         "Prints two tables side by side, and marks rows that differ",
         "Example: pitch park.vol diff 3 7",
     )
     .arg(number(heap, "first", "A clone's number, 0 to 23"))?
-    .arg(number(heap, "second", "Another clone's number, 0 to 23"))?;
-    let tables = described(
+    .arg(number(heap, "second", "Another clone's number, 0 to 23"))
+}
+
+fn tables_command<'a>(heap: Global) -> Result<clap::Command<'a>, AllocError> {
+    Ok(described(
         heap,
         "tables",
         "Prints what clones there are, and which blocks they share",
         "Example: pitch park.vol tables",
-    );
-    let check = described(
+    ))
+}
+
+fn check_command<'a>(heap: Global) -> Result<clap::Command<'a>, AllocError> {
+    Ok(described(
         heap,
         "check",
         "Says whether the file holds a sound volume, or what is wrong",
         "Example: pitch park.vol check",
-    );
-    let block = number(heap, "block", "A block, to print what it holds").required(false);
-    let inspect = described(
+    ))
+}
+
+fn inspect_command<'a>(heap: Global) -> Result<clap::Command<'a>, AllocError> {
+    described(
         heap,
         "inspect",
         "Prints the slots and the tree blocks",
         "Example: pitch park.vol inspect 2",
     )
-    .arg(block)?;
-    let plot = described(
+    .arg(number(heap, "block", "A block, to print what it holds").required(false))
+}
+
+fn plot_command<'a>(heap: Global) -> Result<clap::Command<'a>, AllocError> {
+    described(
         heap,
         "plot",
         "Prints the curves as an SVG picture",
         "Example: pitch park.vol plot 3 7 > curves.svg",
     )
-    .arg(clones(heap))?;
-    top.subcommand(get)?
-        .subcommand(at)?
-        .subcommand(list)?
-        .subcommand(summary)?
-        .subcommand(export)?
-        .subcommand(diff)?
-        .subcommand(tables)?
-        .subcommand(check)?
-        .subcommand(inspect)?
-        .subcommand(plot)
+    .arg(clones(heap))
+}
+
+// The commands that make clones and drop them.
+fn with_clones<'a>(heap: Global, top: clap::Command<'a>) -> Result<clap::Command<'a>, AllocError> {
+    top.subcommand(create_command(heap)?)?
+        .subcommand(clone_command(heap)?)?
+        .subcommand(delete_command(heap)?)
+}
+
+// The commands that change rows.
+fn with_rows<'a>(heap: Global, top: clap::Command<'a>) -> Result<clap::Command<'a>, AllocError> {
+    top.subcommand(put_command(heap)?)?
+        .subcommand(remove_command(heap)?)?
+        .subcommand(import_command(heap)?)?
+        .subcommand(run_command(heap)?)
+}
+
+// The commands that print rows.
+fn with_answers<'a>(heap: Global, top: clap::Command<'a>) -> Result<clap::Command<'a>, AllocError> {
+    top.subcommand(get_command(heap)?)?
+        .subcommand(at_command(heap)?)?
+        .subcommand(list_command(heap)?)?
+        .subcommand(export_command(heap)?)
+}
+
+// The commands that print whole tables.
+fn with_tables<'a>(heap: Global, top: clap::Command<'a>) -> Result<clap::Command<'a>, AllocError> {
+    top.subcommand(summary_command(heap)?)?
+        .subcommand(diff_command(heap)?)?
+        .subcommand(tables_command(heap)?)?
+        .subcommand(plot_command(heap)?)
+}
+
+// The commands that print what the file holds.
+fn with_blocks<'a>(heap: Global, top: clap::Command<'a>) -> Result<clap::Command<'a>, AllocError> {
+    top.subcommand(check_command(heap)?)?
+        .subcommand(inspect_command(heap)?)
+}
+
+fn init_command<'a>(heap: Global) -> Result<clap::Command<'a>, AllocError> {
+    let blocks = Arg::new(heap, "blocks")
+        .long("blocks")
+        .value_name("N")
+        .value_parser(value_parser!(u32).range(16..=4096))
+        .default_value("4096")
+        .help("The number of blocks, 16 to 4096");
+    described(
+        heap,
+        "init",
+        "Makes a new file that holds an empty volume",
+        "Example: pitch park.vol init --blocks 1024",
+    )
+    .arg(blocks)
 }
 
 fn top<'a>(heap: Global) -> Result<clap::Command<'a>, AllocError> {
@@ -323,19 +405,6 @@ fn top<'a>(heap: Global) -> Result<clap::Command<'a>, AllocError> {
         .long("mirror")
         .value_name("FILE2")
         .help("The second file, where the volume is kept in two");
-    let blocks = Arg::new(heap, "blocks")
-        .long("blocks")
-        .value_name("N")
-        .value_parser(value_parser!(u32).range(16..=4096))
-        .default_value("4096")
-        .help("The number of blocks, 16 to 4096");
-    let init = described(
-        heap,
-        "init",
-        "Makes a new file that holds an empty volume",
-        "Example: pitch park.vol init --blocks 1024",
-    )
-    .arg(blocks)?;
     clap::Command::new(heap, "pitch")
         .about("Keeps pitch tables of wind turbines in a file, through power cuts")
         .after_help(
@@ -344,13 +413,20 @@ fn top<'a>(heap: Global) -> Result<clap::Command<'a>, AllocError> {
         .subcommand_required(true)
         .arg(image)?
         .arg(mirror)?
-        .subcommand(init)
+        .subcommand(init_command(heap)?)
+}
+
+// All that a command line may say.
+fn command_line<'a>(heap: Global) -> Result<clap::Command<'a>, AllocError> {
+    let top = with_clones(heap, top(heap)?)?;
+    let top = with_rows(heap, top)?;
+    let top = with_answers(heap, top)?;
+    with_blocks(heap, with_tables(heap, top)?)
 }
 
 // What the words of a command line ask for.
 pub(crate) fn parse<'a>(heap: Global, words: &'a [&'a str]) -> Result<Asked<'a>, Error> {
-    let top = with_looks(heap, with_changes(heap, top(heap)?)?)?;
-    let matches = top.try_get_matches_from(words)?;
+    let matches = command_line(heap)?.try_get_matches_from(words)?;
     let place = Place {
         image: matches.get_str("image").unwrap_or(""),
         mirror: matches.get_str("mirror"),

@@ -1,7 +1,7 @@
 // Rows from CSV.
 use super::change::Done;
-use anyhow::{Context, anyhow, bail, ensure};
-use csv::{ReaderBuilder, StringRecord};
+use anyhow::{Context, bail, ensure};
+use csv::{Reader, ReaderBuilder, StringRecord};
 use device::Device;
 use model::Refusal;
 use std::fs;
@@ -19,33 +19,51 @@ fn row_of(record: &StringRecord) -> Option<Row> {
     Row::new(speed, angle).ok()
 }
 
+// The next record of a file; none at its end.
+fn next_record(
+    reader: &mut Reader<&[u8]>,
+    record: &mut StringRecord,
+    path: &str,
+) -> anyhow::Result<bool> {
+    match reader.read_record(record) {
+        Ok(found) => Ok(found),
+        Err(error) => bail!("{path}: {error}"),
+    }
+}
+
+// The row of a record, or the line that is none.
+fn checked_row(record: &StringRecord, path: &str) -> anyhow::Result<Row> {
+    if let Some(row) = row_of(record) {
+        return Ok(row);
+    }
+    let line = record.position().map_or(0, |at| at.line());
+    bail!(
+        "{path}: line {line}: it is no speed of 0 to 9999 and angle of -9000 to 9000, in hundredths"
+    )
+}
+
+fn is_header(record: &StringRecord) -> bool {
+    record.get(0) == Some("speed") && record.get(1) == Some("angle") && record.len() == 2
+}
+
 // All rows of a file, or the first line that is no row.
 fn read_rows(rt: &HostRuntime, path: &str) -> anyhow::Result<Vec<Row>> {
     let bytes = fs::read(rt, path).context(format_args!("reading {path}"))?;
-    let mut reader = ReaderBuilder::new().from_reader(rt.alloc(), bytes.as_slice());
-    let headers = match reader.headers() {
-        Ok(headers) => headers,
-        Err(error) => bail!("{path}: line 1: {error}"),
-    };
-    let named = headers.get(0) == Some("speed")
-        && headers.get(1) == Some("angle")
-        && headers.len() == 2;
-    ensure!(named, "{path}: line 1: the header is to be speed,angle");
-    let mut rows = Vec::new(rt.alloc());
+    let mut reader = ReaderBuilder::new()
+        .has_headers(false)
+        .from_reader(rt.alloc(), bytes.as_slice());
     let mut record = StringRecord::new(rt.alloc());
+    let found = next_record(&mut reader, &mut record, path)?;
+    ensure!(
+        found && is_header(&record),
+        "{path}: line 1: the header is to be speed,angle"
+    );
+    let mut rows = Vec::new(rt.alloc());
     for _ in 0..u64::MAX {
-        match reader.read_record(&mut record) {
-            Ok(true) => {},
-            Ok(false) => break,
-            Err(error) => bail!("{path}: {error}"),
+        if !next_record(&mut reader, &mut record, path)? {
+            break;
         }
-        let line = record.position().map_or(0, |at| at.line());
-        let row = row_of(&record).ok_or_else(|| {
-            anyhow!(
-                "{path}: line {line}: it is no speed of 0 to 9999 and angle of -9000 to 9000, in hundredths"
-            )
-        })?;
-        rows.push(row)?;
+        rows.push(checked_row(&record, path)?)?;
     }
     Ok(rows)
 }
