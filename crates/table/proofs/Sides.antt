@@ -57,3 +57,16 @@ module _ (s : ℕ) (e : ℕ × ℤ) where
       let p = sym h.1 ∙ q in
       let t = le-ltb s e.0 le in
       (sym (up_more rs ∙ ap (λ y. below_by y (up_to s rs)) p ∙ rw t refl), q ∙ sym (past_more rs ∙ ap (λ y. option_or y (past s (e ∷ []))) p ∙ rw t refl))
+
+-- once a row above is seen, no later one counts
+pub settled : (s : ℕ) (a : ℕ × ℤ) (xs ys : List (ℕ × ℤ)) → past s xs ≡ Some a → (up_to s (xs ++ ys) ≡ up_to s xs) × (past s (xs ++ ys) ≡ past s xs)
+settled s a [] ys h = absurd (let z : ◌≡◌ {A = Option (ℕ × ℤ)} None (Some a) = h in cc)
+settled s a (x ∷ xs) ys h = go (ltb s x.0) (settled s a xs ys) h
+  where
+    Same : Type 0
+    Same = (up_to s (xs ++ ys) ≡ up_to s xs) × (past s (xs ++ ys) ≡ past s xs)
+
+    go : (t : Bool) → (past s xs ≡ Some a → Same) → cond t (Some x) (past s xs) ≡ Some a
+        → (cond t None (later (Some x) (up_to s (xs ++ ys))) ≡ cond t None (later (Some x) (up_to s xs))) × (cond t (Some x) (past s (xs ++ ys)) ≡ cond t (Some x) (past s xs))
+    go true _ _ = (refl, refl)
+    go false more h = (ap (later (Some x)) (more h).0, (more h).1)

@@ -17,11 +17,15 @@ impl Around {
     pub fn of(rows: &[Row], speed: u32) -> Around
         ensures { StandsAround speed (map pair_of rows.now) result }
     {
-        let mut around = Around::default();
+        let mut below: Option<Row> = None;
         for row in rows {
-            around = around.with(*row, speed);
+            if row.speed > speed {
+                let above = Some(*row);
+                return Around { below, above };
+            }
+            below = Some(*row);
         }
-        around
+        Around { below, above: None }
     }
 
     // The same with one more row seen; rows are seen in ascending order.
