@@ -1,4 +1,5 @@
 pub mod Block
+pub mod InUse
 pub mod Io
 pub mod Slot
 pub mod View

@@ -1,5 +1,6 @@
 -- What pages and slots in memory stand for.
 use Rattle.std.specs.Prelude.{ℕ, List, map, Some, None, Option}
+use Rattle.page.specs.InUse.{in_use}
 use Rattle.page.specs.Block.{Block}
 use Rattle.page.specs.Slot.{Table}
 use Rattle.page.specs.Slot as slots
@@ -14,7 +15,7 @@ pair e = (e.speed, e.value)
 
 -- the entries of a page
 abbrev pub entries : Page → List (ℕ × ℕ)
-entries p = map pair p.entries.items
+entries p = map pair (in_use p.entries)
 
 -- the tree block that a page stands for
 abbrev pub view : Page → Block

@@ -7,6 +7,7 @@ ghost use Rattle.page.specs.Slot.{FormsExact, SlotsExact};
 
 mod codec;
 mod edits;
+pub mod entries;
 pub mod io;
 pub mod page;
 pub mod page_words;
@@ -82,6 +83,25 @@ mod tests {
         assert_eq!(rt; words[3], 0x4000_22C4);
         assert_eq!(rt; words[31], 0);
         assert!(rt; is_page(&words));
+    }
+
+    // A page is copied as a number is: a copy keeps what its original held.
+    #[test]
+    fn pages_are_copied(rt: HostRuntime) {
+        let page = Page::new(
+            0,
+            &[Entry {
+                speed: 400,
+                value: 8900,
+            }],
+        );
+        let kept = page;
+        let longer = page.with_row(Entry {
+            speed: 500,
+            value: 9000,
+        });
+        assert!(rt; kept == page && kept != longer);
+        assert_eq!(rt; longer.entries.len(), 2);
     }
 
     // An index block of level 4, then with level 5, with one entry more, a leaf's header, an angle for a child, a word too many.

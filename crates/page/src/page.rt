@@ -1,7 +1,7 @@
 // A tree block in memory.
-ghost use Rattle.std.specs.Prelude.{◌≡◌, ℕ, ◌<◌, ◌≤◌, length};
+ghost use Rattle.std.specs.Prelude.{◌≡◌, ℕ, ◌<◌, ◌≤◌};
 
-use arrayvec::ArrayVec;
+use super::entries::Entries;
 
 // A speed or separator, and a payload: an angle + 9,000 in a leaf, a child's block in an index block. Each fits 28 bits.
 #[derive(Clone, Copy, PartialEq, Eq, Debug)]
@@ -20,9 +20,9 @@ impl Default for Entry {
 }
 
 // A leaf has level 0; level 5 is only in memory, above a root.
-#[derive(Drop, PartialEq, Eq, Debug)]
+#[derive(Clone, Copy, PartialEq, Eq, Debug)]
 pub struct Page {
     pub level: u32,
-    pub entries: ArrayVec<Entry, 15>,
-    ghost few: { (length entries.items ≤ 15) × (level ≤ 5) },
+    pub entries: Entries,
+    ghost low: { level ≤ 5 },
 }

@@ -7,8 +7,8 @@ ghost use Rattle.page.specs.View.{view};
 ghost use Rattle.tree.specs.Reads.{look};
 
 use super::codec::is_page;
+use super::entries::Entries;
 use super::page::{Entry, Page};
-use arrayvec::ArrayVec;
 use device::{DeviceFault, Reader};
 use std::marker::Model;
 use word::payload;
@@ -146,12 +146,12 @@ impl PageWords {
     pub fn to_page(&self) -> Page
         ensures { view result ≡ self.now }
     {
-        let mut entries = ArrayVec::new();
+        let mut entries = Entries::new();
         for i in 0..self.len() {
-            entries.push(Entry {
+            entries.extend(&[Entry {
                 speed: self.speed(i),
                 value: self.value(i),
-            });
+            }]);
         }
         Page {
             level: self.level(),

@@ -6,6 +6,7 @@ use Rattle.tree.specs.Node.{first}
 use Rattle.tree.specs.Tree.{Pay, Tree, Cell}
 use Rattle.tree.proofs.Over.{map_length}
 use Rattle.tree.proofs.Steps.{map_get, every_get}
+use Rattle.page.specs.InUse.{in_use}
 use Rattle.page.specs.Block.{Block, block_at, kids_of}
 use Rattle.page.specs.View.{pair, view, entries}
 use Rattle.page.specs.declared.page.Page.{Page}
@@ -92,9 +93,9 @@ module _ (m : Meaning) (cs : List ℕ) (n : Block) (s l : ℕ) (es : List (ℕ �
   still_back b q e c o t = ap (λ (z : Meaning). block_at z c) (sym (same_device b q e)) ∙ t
 
   -- how many entries a child has
-  pub child_len : (j : ℕ) → 2 ≤ length es → j < length es → (x : Page) → view x ≡ node_of l (get_or es j D).1.1 → ((length x.entries.items) ≡ length (get_or es j D).1.1) × (7 ≤ (length x.entries.items)) × ((length x.entries.items) ≤ 15) × (x.level ≡ l)
+  pub child_len : (j : ℕ) → 2 ≤ length es → j < length es → (x : Page) → view x ≡ node_of l (get_or es j D).1.1 → ((length (in_use x.entries)) ≡ length (get_or es j D).1.1) × (7 ≤ (length (in_use x.entries))) × ((length (in_use x.entries)) ≤ 15) × (x.level ≡ l)
   child_len j two h x e =
-      let n : (length x.entries.items) ≡ length (get_or es j D).1.1 = omega (arith, entries_length x, ap (λ (z : Block). length z.entries) e, shallow_length l (get_or es j D).1.1) in
+      let n : (length (in_use x.entries)) ≡ length (get_or es j D).1.1 = omega (arith, entries_length x, ap (λ (z : Block). length z.entries) e, shallow_length l (get_or es j D).1.1) in
       let c = bounds j h in
       (n, omega (arith, n, c.0), omega (arith, n, c.1), ap (λ (z : Block). z.level) e)
     where
@@ -103,7 +104,7 @@ module _ (m : Meaning) (cs : List ℕ) (n : Block) (s l : ℕ) (es : List (ℕ �
       bounds (suc j) h = let q = seg_pair (Cell ℕ ℕ (suc l)) p.lo p.hi es j D p.span h in (q.1.1.1, q.1.1.2)
 
   -- the child is not short
-  pub fill_apart : (i key b : ℕ) → At n s i → get_or n.entries i (0, 0) ≡ (key, b) → (x : Page) → block_at m b ≡ Some (view x) → ((length x.entries.items) ≡ 7 → ⊥) → (q : State) → q ≡ step (opening b) (m, cs)
+  pub fill_apart : (i key b : ℕ) → At n s i → get_or n.entries i (0, 0) ≡ (key, b) → (x : Page) → block_at m b ≡ Some (view x) → ((length (in_use x.entries)) ≡ 7 → ⊥) → (q : State) → q ≡ step (opening b) (m, cs)
       → (end : ℕ) → end ≡ suc i → Filling (m, cs) q s l es (record { at = i; end = end; part = x; rest = Nothing })
   unfolding right_apart left_apart
   fill_apart i key b a eb x t long q e end past =
@@ -137,10 +138,10 @@ module _ (m : Meaning) (cs : List ℕ) (n : Block) (s l : ℕ) (es : List (ℕ �
     pub y_is : view y ≡ node_of l ys
     y_is = child_is (suc i) b₂ h (number (suc i) key₂ b₂ eb₂) (view y) t₂
 
-    pub x_len : ((length x.entries.items) ≡ length xs) × (7 ≤ (length x.entries.items)) × ((length x.entries.items) ≤ 15) × (x.level ≡ l)
+    pub x_len : ((length (in_use x.entries)) ≡ length xs) × (7 ≤ (length (in_use x.entries))) × ((length (in_use x.entries)) ≤ 15) × (x.level ≡ l)
     x_len = child_len i (p.enough (omega arith)) (omega arith) x x_is
 
-    pub y_len : ((length y.entries.items) ≡ length ys) × (7 ≤ (length y.entries.items)) × ((length y.entries.items) ≤ 15) × (y.level ≡ l)
+    pub y_len : ((length (in_use y.entries)) ≡ length ys) × (7 ≤ (length (in_use y.entries))) × ((length (in_use y.entries)) ≤ 15) × (y.level ≡ l)
     y_len = child_len (suc i) (p.enough (omega arith)) h y y_is
 
     module _ (q₁ q₂ : State) (e₁ : q₁ ≡ step (opening b) (m, cs)) (e₂ : q₂ ≡ step (opening b₂) q₁) where
@@ -150,11 +151,11 @@ module _ (m : Meaning) (cs : List ℕ) (n : Block) (s l : ℕ) (es : List (ℕ �
       joined_is : (part : Page) → part.level ≡ l → entries part ≡ entries x ++ entries y → view part ≡ node_of l (xs ++ ys)
       joined_is part lv these = ap₂ page lv (these ∙ ap₂ (λ (u v : Block). u.entries ++ v.entries) x_is y_is ∙ flat_append l xs ys)
 
-      module _ (a : At n s i) (short : (length x.entries.items) ≡ 7) where
+      module _ (a : At n s i) (short : (length (in_use x.entries)) ≡ 7) where
         abbrev c : Covers s es i D
         c = covers_of i a
 
-        pub fill_right_merged : (length y.entries.items) ≡ 7 → (part : Page) → part.level ≡ x.level → entries part ≡ entries x ++ entries y → Filling (m, cs) q₂ s l es (record { at = i; end = i + 2; part = part; rest = Nothing })
+        pub fill_right_merged : (length (in_use y.entries)) ≡ 7 → (part : Page) → part.level ≡ x.level → entries part ≡ entries x ++ entries y → Filling (m, cs) q₂ s l es (record { at = i; end = i + 2; part = part; rest = Nothing })
         unfolding right_merged
         fill_right_merged o part lv these = record {
           split = right_merged s l es i p.lo p.hi p.span h c.low (c.high h) (omega (arith, x_len.0)) (omega (arith, y_len.0));
@@ -166,7 +167,7 @@ module _ (m : Meaning) (cs : List ℕ) (n : Block) (s l : ℕ) (es : List (ℕ �
           state = both;
         }
 
-        pub fill_right_moved : ((length y.entries.items) ≡ 7 → ⊥) → (part rest : Page) → part.level ≡ x.level → entries part ≡ entries x ++ take 1 (entries y) → rest.level ≡ y.level → entries rest ≡ drop 1 (entries y)
+        pub fill_right_moved : ((length (in_use y.entries)) ≡ 7 → ⊥) → (part rest : Page) → part.level ≡ x.level → entries part ≡ entries x ++ take 1 (entries y) → rest.level ≡ y.level → entries rest ≡ drop 1 (entries y)
             → (sep : ℕ) → sep ≡ first (entries rest) → Filling (m, cs) q₂ s l es (record { at = i; end = i + 2; part = part; rest = After sep rest })
         unfolding right_moved
         fill_right_moved o part rest lv these lr left sep first_is =
@@ -181,11 +182,11 @@ module _ (m : Meaning) (cs : List ℕ) (n : Block) (s l : ℕ) (es : List (ℕ �
               state = both;
             }
 
-      module _ (a : At n s (suc i)) (last : length es ≡ suc (suc i)) (short : (length y.entries.items) ≡ 7) where
+      module _ (a : At n s (suc i)) (last : length es ≡ suc (suc i)) (short : (length (in_use y.entries)) ≡ 7) where
         abbrev c₂ : Covers s es (suc i) D
         c₂ = covers_of (suc i) a
 
-        pub fill_left_merged : (length x.entries.items) ≡ 7 → (part : Page) → part.level ≡ x.level → entries part ≡ entries x ++ entries y → Filling (m, cs) q₂ s l es (record { at = i; end = i + 2; part = part; rest = Nothing })
+        pub fill_left_merged : (length (in_use x.entries)) ≡ 7 → (part : Page) → part.level ≡ x.level → entries part ≡ entries x ++ entries y → Filling (m, cs) q₂ s l es (record { at = i; end = i + 2; part = part; rest = Nothing })
         unfolding left_merged
         fill_left_merged o part lv these = record {
           split = left_merged s l es i p.lo p.hi p.span last c₂.low p.high (omega (arith, y_len.0)) (omega (arith, x_len.0));
@@ -197,7 +198,7 @@ module _ (m : Meaning) (cs : List ℕ) (n : Block) (s l : ℕ) (es : List (ℕ �
           state = both;
         }
 
-        pub fill_left_moved : ((length x.entries.items) ≡ 7 → ⊥) → (part rest : Page) → part.level ≡ y.level → entries part ≡ drop (length (entries x) - 1) (entries x) ++ entries y → rest.level ≡ x.level → entries rest ≡ take ((length x.entries.items) - 1) (entries x)
+        pub fill_left_moved : ((length (in_use x.entries)) ≡ 7 → ⊥) → (part rest : Page) → part.level ≡ y.level → entries part ≡ drop (length (entries x) - 1) (entries x) ++ entries y → rest.level ≡ x.level → entries rest ≡ take ((length (in_use x.entries)) - 1) (entries x)
             → (sep : ℕ) → sep ≡ first (entries part) → Filling (m, cs) q₂ s l es (record { at = i; end = i + 2; part = part; rest = Before sep rest })
         unfolding left_moved
         fill_left_moved o part rest lv these lr left sep first_is =
@@ -216,7 +217,7 @@ module _ (m : Meaning) (cs : List ℕ) (n : Block) (s l : ℕ) (es : List (ℕ �
             }
 
 -- the entry j of a page, as code reads it
-pub entry_read : (p : Page) (j i : ℕ) (d : Entry) (xs : List Entry) → i ≡ j → j < length p.entries.items → xs ≡ p.entries.items → get_or (entries p) j (0, 0) ≡ pair (get_or xs i d)
+pub entry_read : (p : Page) (j i : ℕ) (d : Entry) (xs : List Entry) → i ≡ j → j < length (in_use p.entries) → xs ≡ (in_use p.entries) → get_or (entries p) j (0, 0) ≡ pair (get_or xs i d)
 entry_read p j i d items e h same =
     entries_at p j d h ∙ ap₂ (λ (zs : List Entry) (k : ℕ). pair (get_or zs k d)) (sym same) (sym e)
 
@@ -231,7 +232,7 @@ module _ (m : Meaning) (cs : List ℕ) (n : Block) (s : ℕ) (a : AbleIndex (m, 
   pub owned_after : (i key b key₂ b₂ : ℕ) → suc i < length n.entries → get_or n.entries i (0, 0) ≡ (key, b) → get_or n.entries (suc i) (0, 0) ≡ (key₂, b₂) → (q : State) → q ≡ step (opening b) (m, cs) → Owned q b₂
   owned_after i key b key₂ b₂ h e e₂ = owned_next m cs n s a.l a.es a.ready i b b₂ (omega (arith, h, len m cs n s a.l a.es a.ready)) (number m cs n s a.l a.es a.ready i key b e) (number m cs n s a.l a.es a.ready (suc i) key₂ b₂ e₂)
 
-  pub seven : (i key b : ℕ) → i < length n.entries → get_or n.entries i (0, 0) ≡ (key, b) → (x : Page) → block_at m b ≡ Some (view x) → 7 ≤ length x.entries.items
+  pub seven : (i key b : ℕ) → i < length n.entries → get_or n.entries i (0, 0) ≡ (key, b) → (x : Page) → block_at m b ≡ Some (view x) → 7 ≤ length (in_use x.entries)
   seven i key b h e x t =
       let lt : i < length a.es = omega (arith, h, len m cs n s a.l a.es a.ready) in
       (child_len m cs n s a.l a.es a.ready i (a.ready.enough (omega arith)) lt x (child_is m cs n s a.l a.es a.ready i b lt (number m cs n s a.l a.es a.ready i key b e) (view x) t)).1

@@ -4,6 +4,7 @@
 ghost use Rattle.std.specs.Prelude.{◌≡◌, ℕ, suc, ◌+◌, ◌*◌, ◌<◌, ◌≤◌, List, ◌++◌, length, take, drop, slice_index};
 ghost use Rattle.tree.specs.Node.{map_e};
 ghost use Rattle.tree.specs.Tree.{Pay, Tree};
+ghost use Rattle.page.specs.InUse.{in_use};
 ghost use Rattle.page.specs.View.{view, entries, root_pair};
 ghost use Rattle.counts.specs.Counts.{free_blocks};
 ghost use Rattle.counts.specs.Moves.{run, Shaped};
@@ -30,7 +31,7 @@ const FEWEST: usize = 7;
 fn fill_right<D: Device>(store: &mut Store<D>, page: &Page, i: usize, speed: u32) -> Filled
     requires able { AbleIndex store.old (view page.now) speed }
     requires at { At (view page.now) speed i }
-    requires more { suc i < length page.now.entries.items }
+    requires more { suc i < length (in_use page.now.entries) }
     ensures filling { (l : ℕ) (es : List (ℕ × Tree ℕ ℕ l)) → Ready store.old (view page.now) speed (suc l) es → Filling store.old store.new speed l es result }
     ensures shape { Shaped store.old }
 {
@@ -66,7 +67,7 @@ fn fill_right<D: Device>(store: &mut Store<D>, page: &Page, i: usize, speed: u32
 fn fill_left<D: Device>(store: &mut Store<D>, page: &Page, i: usize, speed: u32) -> Filled
     requires able { AbleIndex store.old (view page.now) speed }
     requires at { At (view page.now) speed (suc i) }
-    requires last { length page.now.entries.items ≡ suc (suc i) }
+    requires last { length (in_use page.now.entries) ≡ suc (suc i) }
     ensures filling { (l : ℕ) (es : List (ℕ × Tree ℕ ℕ l)) → Ready store.old (view page.now) speed (suc l) es → Filling store.old store.new speed l es result }
     ensures shape { Shaped store.old }
 {
@@ -130,7 +131,7 @@ fn link_parts<D: Device>(
     requires level { made.now.level < 5 }
     requires beside { Beside made.now.level filled.now.rest }
     requires fits { Fits filled.now }
-    requires within { filled.now.end ≤ length page.now.entries.items }
+    requires within { filled.now.end ≤ length (in_use page.now.entries) }
     ensures level { result.level ≡ page.now.level }
     ensures these { entries result ≡ take filled.now.at (entries page.now) ++ (map_e (λ c. c.0) (placed (slice_index grant.old 0) (slice_index grant.old 1) (parts_of page.now filled.now made.now)) ++ drop filled.now.end (entries page.now)) }
     ensures state { store.new ≡ run (links made.now.level (placed (slice_index grant.old 0) (slice_index grant.old 1) (parts_of page.now filled.now made.now))) store.old }

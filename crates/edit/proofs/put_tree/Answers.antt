@@ -1,5 +1,6 @@
 use Rattle.std.proofs.Common.{◌≡◌, ℕ, suc, ◌*◌, ◌<◌, List, [], ◌∷◌, length, get_or, drop, sym, ap, ◌∙◌, arith}
 use Rattle.device.specs.Meaning.{current_at}
+use Rattle.page.specs.InUse.{in_use}
 use Rattle.page.specs.View.{view, entries}
 use Rattle.page.specs.declared.page.Page.{Page}
 use Rattle.page.specs.declared.page.Entry.{Entry}
@@ -36,7 +37,7 @@ pub end-requires : goal.end-requires
 end-requires g c = c.give_back.ensures ∙ but_one g (goal.at.end-requires g c).After-put_in-made
 
 -- one entry: it names the new root
-only_block : (q : Page) (xs : List Entry) (r : Entry) → length q.entries.items ≡ 1 → xs ≡ q.entries.items → (get_or (entries q) 0 (0, 0)).1 ≡ (get_or xs 0 r).value
+only_block : (q : Page) (xs : List Entry) (r : Entry) → length (in_use q.entries) ≡ 1 → xs ≡ (in_use q.entries) → (get_or (entries q) 0 (0, 0)).1 ≡ (get_or xs 0 r).value
 only_block q xs r n e = ap (λ (x : ℕ × ℕ). x.1) (entries_at q 0 r (omega (arith, n))) ∙ ap (λ (xs : List Entry). (get_or xs 0 r).value) (sym e)
 
 pub invariant_of-result : goal.invariant_of-result
@@ -59,7 +60,7 @@ returns-then-len-eq1 g c =
 pub end-requires-2 : goal.end-requires-2
 end-requires-2 g c = ap (drop 1) (sym c.take-block.ensures) ∙ but_one g (goal.at.end-requires-2 g c).After-put_in-made
 
-module _ (g : Over) (c : After-put_in-made g) (n : length c.put_in-made.result.entries.items ≡ 1 → ⊥) (b : ℕ) (rest : List ℕ) (e : c.put_in-made.new.grant ≡ b ∷ rest) where
+module _ (g : Over) (c : After-put_in-made g) (n : length (in_use c.put_in-made.result.entries) ≡ 1 → ⊥) (b : ℕ) (rest : List ℕ) (e : c.put_in-made.new.grant ≡ b ∷ rest) where
   more : 1 < length (entries c.put_in-made.result)
   more = many _ _ _ _ _ _ _ (p g c) _ _ _ (M g c) (λ e. n (sym (entries_length c.put_in-made.result) ∙ e))
 
@@ -77,12 +78,12 @@ link-requires g c =
 pub invariant_of-result-2 : goal.invariant_of-result-2
 invariant_of-result-2 g c =
     let L = able g (goal.at.invariant_of-result-2 g c).After-put_in-made (λ e. c.if-len-eq1.false (c.len.ensures.value ∙ e)) _ _ c.take-block.ensures in
-    record { small = (omega (arith, c.new-above.result.few.1, c.new-above.ensures.level), L.small) }
+    record { small = (omega (arith, c.new-above.result.low, c.new-above.ensures.level), L.small) }
 
 pub returns : goal.returns
 returns g c =
     let d = (goal.at.returns g c).After-put_in-made in
-    let n : length c.put_in-made.result.entries.items ≡ 1 → ⊥ = λ e. c.if-len-eq1.false (c.len.ensures.value ∙ e) in
+    let n : length (in_use c.put_in-made.result.entries) ≡ 1 → ⊥ = λ e. c.if-len-eq1.false (c.len.ensures.value ∙ e) in
     let m = more g d n _ _ c.take-block.ensures in
     let e = block_is g d n _ _ c.take-block.ensures in
     let L = able g d n _ _ c.take-block.ensures in

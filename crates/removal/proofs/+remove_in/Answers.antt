@@ -75,7 +75,7 @@ module _ (g : Over) (t : ℕ) (c : After-remove_in-made g t) (a : AbleIndex c.ar
   kept = subst (λ (k : ℕ). Beside k c.fill-filled.result.rest) (sym flat) f.beside
 
   low : c.remove_in-made.result.level < 5
-  low = omega (arith, flat, level, c.args.page.now.few.1)
+  low = omega (arith, flat, level, c.args.page.now.low)
 
 pub link_parts-requires : goal.link_parts-requires
 link_parts-requires g t c =

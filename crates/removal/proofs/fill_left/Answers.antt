@@ -1,4 +1,5 @@
 use Rattle.std.proofs.Common.{◌≡◌, ℕ, suc, ◌+◌, ◌<◌, ◌≤◌, List, map, length, get_or, Some, sym, refl, ap, ◌∙◌, subst, add-one, arith}
+use Rattle.page.specs.InUse.{in_use}
 use Rattle.page.specs.Block.{block_at}
 use Rattle.page.specs.View.{pair, view, entries}
 use Rattle.page.proofs.Pages.{entries_length}
@@ -55,7 +56,7 @@ module _ (g : Over) (c : After-open-before g) where
   before_there : block_at c.args.store.now.0 b ≡ Some (view c.open-before.result)
   before_there = ap (λ (z : State). block_at z.0 b) (sym c.read_page-child.ensures.kept) ∙ c.open-before.ensures.page
 
-  long : 7 ≤ length c.open-before.result.entries.items
+  long : 7 ≤ length (in_use c.open-before.result.entries)
   long = seven _ _ _ _ c.requires.able c.args.i _ _ (omega (arith, c.requires.last, entries_length c.args.page.now)) e c.open-before.result before_there
 
 pub open_page-requires-2-clause-owned : goal.open_page-requires-2-clause-owned
@@ -70,7 +71,7 @@ pub overflow_sub-len-2 : goal.overflow_sub-len-2
 overflow_sub-len-2 g c = omega (arith, c.len-len.ensures.value, long g (goal.at.overflow_sub-len-2 g c).After-open-before)
 
 module _ (g : Over) (c : After-open-before g) where
-  short : length c.read_page-child.result.entries.items ≡ 7
+  short : length (in_use c.read_page-child.result.entries) ≡ 7
   short = sym c.len.ensures.value ∙ c.if-len-ne-FEWEST.false
 
   last : {X : Type 0} (es : List (ℕ × X)) → length (entries c.args.page.now) ≡ length es → length es ≡ suc (suc c.args.i)

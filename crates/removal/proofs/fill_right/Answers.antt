@@ -1,4 +1,5 @@
 use Rattle.std.proofs.Common.{◌≡◌, ℕ, suc, ◌+◌, ◌<◌, ◌≤◌, List, map, length, get_or, Some, refl, ap, ◌∙◌, add-one, arith, length-drop}
+use Rattle.page.specs.InUse.{in_use}
 use Rattle.page.specs.Block.{block_at}
 use Rattle.page.specs.View.{pair, view, entries}
 use Rattle.page.proofs.Pages.{entries_length}
@@ -28,13 +29,13 @@ module _ (g : Over) (c : After-open-after g) where
   e₂ : get_or (entries c.args.page.now) (suc c.args.i) (0, 0) ≡ pair (get_or c.deref-2.result.now (c.args.i + 1) c.index-deref-i-2.result)
   e₂ = entry_read c.args.page.now (suc c.args.i) (c.args.i + 1) _ _ (add-one c.args.i) c.requires.more c.deref-2.ensures.0
 
-  short : length c.open-child.result.entries.items ≡ 7
+  short : length (in_use c.open-child.result.entries) ≡ 7
   short = omega (arith, c.if-len-ne-FEWEST.false, c.len.ensures.value)
 
   there : block_at c.args.store.now.0 (get_or c.deref-2.result.now (c.args.i + 1) c.index-deref-i-2.result).value ≡ Some (view c.open-after.result)
   there = let p = c.requires.able in still_back _ _ _ _ _ _ p.ready _ c.open-child.new.self c.open-child.ensures.state _ _ c.open-after.ensures.page
 
-  long : 7 ≤ length c.open-after.result.entries.items
+  long : 7 ≤ length (in_use c.open-after.result.entries)
   long = seven _ _ _ _ c.requires.able (suc c.args.i) _ _ (omega (arith, c.requires.more, entries_length c.args.page.now)) e₂ c.open-after.result there
 
   more : {X : Type 0} (es : List (ℕ × X)) → length (entries c.args.page.now) ≡ length es → suc c.args.i < length es

@@ -1,6 +1,7 @@
 use Rattle.std.proofs.Common.{◌≡◌, ℕ, ◌-◌, ◌<◌, List, [], ◌∷◌, map, length, get_or, take, set, Some, sym, ap, ◌∙◌, subst, arith}
 use Rattle.std.proofs.lemmas.List.{get_or-map, length-map, take_more, take_all}
 use Rattle.device.specs.Meaning.{Meaning}
+use Rattle.page.specs.InUse.{in_use}
 use Rattle.page.specs.Block.{block_at, kids_of, level_of}
 use Rattle.page.specs.View.{view}
 use Rattle.page.specs.declared.page.Page.{Page}
@@ -20,7 +21,7 @@ record Fell (s : Meaning × List ℕ) (x : ℕ) (q : Meaning × List ℕ) (xs : 
   kids : map (λ (e : Entry). e.value) xs ≡ kids_of (block_at s.0 x)
 
 fell : (m : Meaning) (cs ds : List ℕ) (s q : Meaning × List ℕ) (x level count : ℕ) (p : Page) (xs : List Entry) → (m, cs) ≡ s → count ≡ get_or cs x 0 → count ≡ 1 → ds ≡ set cs x (count - 1) → q ≡ (m, ds)
-    → block_at m x ≡ Some (view p) → xs ≡ p.entries.items → level_of (block_at s.0 x) ≡ level → 0 < level → Fell s x q xs
+    → block_at m x ≡ Some (view p) → xs ≡ (in_use p.entries) → level_of (block_at s.0 x) ≡ level → 0 < level → Fell s x q xs
 fell m cs ds s q x level count p xs e n one d k page items height up =
     let here : block_at s.0 x ≡ Some (view p) = ap (λ (s : Meaning × List ℕ). block_at s.0 x) (sym e) ∙ page in
     record {

@@ -3,6 +3,7 @@ use Rattle.std.proofs.lemmas.List.{drop-map}
 use Rattle.std.proofs.lemmas.Slice.{between_to_end}
 use Rattle.std.proofs.lemmas.Iterator.{IsFirst-from_position, YieldsList-from_slice}
 use Rattle.std.specs.Slice.Iter.{iter_rest}
+use Rattle.page.specs.InUse.{in_use}
 use Rattle.page.specs.View.{pair, entries}
 use Rattle.page.proofs.Editing.{First, first_found, covers_past, covers_low}
 use Rattle.page.proofs.page.Page.covering.Goals as goal
@@ -10,7 +11,7 @@ use Rattle.page.proofs.page.Page.covering.Goals as goal
 found : (c : goal.After-unwrap_or) → First (λ k. k ≤ c.args.speed) (λ k. c.args.speed < k) (drop 1 (entries c.args.self.now)) c.unwrap_or.result
 found c =
     let s = c.args.speed in
-    let xs = c.args.self.now.entries.items in
+    let xs = (in_use c.args.self.now.entries) in
     let later : iter_rest c.iter.result ≡ drop 1 xs = c.iter.ensures.rest ∙ between_to_end c.deref.result.now 1 _ (omega arith) ∙ ap (drop 1) c.deref.ensures.0 in
     let f : First (λ k. k ≤ s) (λ k. s < k) (map pair (drop 1 xs)) (unwrap_or c.position-at.result (length (drop 1 xs)))
     = first_found (λ k. k ≤ s) (λ k. s < k) (drop 1 xs) c.position-at.result
