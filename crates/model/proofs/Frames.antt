@@ -10,7 +10,7 @@ use Rattle.model.specs.Plain.{place}
 use Rattle.model.specs.TreeBlocks.{elem, AllGood, Tree, tree_at, reach, form, Good, Each}
 use Rattle.model.proofs.TreeLaws.{elem_left, elem_right, elem_cases, tree_same, good_one, fit_inside, reach_form}
 use Rattle.model.specs.Model.{Trees, forms, reaches}
-use Rattle.model.proofs.Ideal.{left_after}
+use Rattle.model.specs.Ideal.{left_after}
 use Rattle.model.specs.World.{trees}
 
 pub apart : (x b : ℕ) (R : List ℕ) → T (elem x R) → (T (elem b R) → ⊥) → eqb x b ≡ false

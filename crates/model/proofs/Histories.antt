@@ -21,8 +21,8 @@ use Rattle.tree.specs.Apart.{places}
 use Rattle.model.proofs.Grants.{slot_law, sizes_parts, create_fit, put_fit, remove_fit}
 use Rattle.std.proofs.lemmas.Bool.{cases_eq}
 use Rattle.model.specs.Model.{Trees, Model, maps_of, refusal, late, free, used, holds, source, new_tree, forms, reaches}
-use Rattle.model.proofs.Ideal.{writes_for, standing, left_after, next, reply, after, with_change, broken, landed, finished, cut_model, working≔}
-use Rattle.model.specs.World.{Tables, Mode, Mode.mounted, Mode.sealed, Mode.down, placed, finished_tables, trees, model_of, shape, latest, walked, faulty, found, sizes, slot_in, fresh, Formatted, FreeWrite, Changed, targets, Effect, Quiet, Mounts, Does, Step, bare}
+use Rattle.model.specs.Ideal.{writes_for, standing, left_after, next, reply, after, with_change, broken, landed, finished, cut_model, working≔}
+use Rattle.model.specs.World.{Tables, Mode, Mode.mounted, Mode.sealed, Mode.down, placed, finished_tables, trees, model_of, shape, latest, walked, faulty, found, sizes, slot_in, fresh, Formatted, FreeWrite, Changed, targets, Effect, Quiet, Mounts, Does, Step, Event, Event.did, Event.broke, Event.lost, Run, Traced, Refines, bare}
 use Rattle.model.proofs.Frames.{Calm, calm_cut, Still, Keeps, Off, IsWrite, left_replay, layer_replay, calm_apply, calm_replay, keeps_writes, cut_calm, keeps_cut, keeps_flush, still_keeps, Same, each_take, each_map, OnPlace, good_at, good_set, Goods, Reaches, trees_same, good_same, good_inside, trees_place, trees_put}
 
 -- 0 and 1, and no more, stand below 2
@@ -553,6 +553,15 @@ module _ (V : Type 0) (join : ℕ → Map → V) where
   broke_fine down reopen M m a os w' m' k κ f S = absurd S.1
   broke_fine down mount M m a os w' m' k κ f S = quiet_cut M κ down m os k S.1.0 f
 
+  traced : (es : List (Event V)) (M : Model) (w : Mode) (m : Meaning) → Fine M w m → Run V join w m es → Traced V join M es
+  traced [] M w m f R = tt
+  traced (did c a os w' m' ∷ es) M w m f R =
+      let s = step_fine w c M m a os w' m' f R.0 in
+      (s.0, traced es (next M c) w' m' s.1 R.1)
+  traced (broke c os k κ ∷ es) M w m f R =
+      traced es (cut_model κ (broken M c k κ)) down (cut κ (replay (take k os) m)) (broke_fine w c M m R.0.0 os R.0.1 R.0.2 k κ f R.0.3) R.1
+  traced (lost κ ∷ es) M w m f R = traced es (cut_model κ M) down (cut κ m) (idle_cut M κ w m f) R
+
   pub formatted_fine : (m : Meaning) → Formatted m → Fine (model_of bare m) (mounted bare) m
   unfolding Fine
   formatted_fine m f =
@@ -569,3 +578,6 @@ module _ (V : Type 0) (join : ℕ → Map → V) where
         other_slot = ap (λ c. slot_in (blocks_of m) 0 c) f.3 ∙ slot_law (blocks_of m) m.width 0 (current_at m) blank f.0 refl tt (lit≤ tt);
       } in
       (record { calm = λ b _. f.2 b; kept = kept; len = refl; goods = tt }, refl)
+
+pub refines : (V : Type 0) → Refines V
+refines V join m es f R = traced V join es (model_of bare m) (mounted bare) m (formatted_fine V join m f) R

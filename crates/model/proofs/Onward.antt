@@ -10,7 +10,7 @@ use Rattle.model.specs.Plain.{Ask.create, Ask.clone, Ask.delete, Ask.put, Ask.re
 use Rattle.table.specs.Rows.{payload_of}
 use Rattle.model.specs.TreeBlocks.{form, elem, Change, Change.begin, Change.puts, Change.takes, root_of, tree_at, reach, Stored}
 use Rattle.model.specs.Model.{Model, maps_of, refusal, late, used, holds, tree_of, new_tree}
-use Rattle.model.proofs.Ideal.{next, broken, cut_model}
+use Rattle.model.specs.Ideal.{next, broken, cut_model}
 use Rattle.model.specs.World.{Tables, Mode, Mode.mounted, Mode.sealed, Mode.down, placed, finished_tables, Event, Event.did, Event.broke, Event.lost, model_of, shape, found, finishing, fresh, sizes, Changed, Effect, Quiet, Mounts, Step, Run, bare}
 use Rattle.model.specs.Right.{Ends}
 use Rattle.model.specs.Onward.{Turn, GoesOn, formatting, Formats}

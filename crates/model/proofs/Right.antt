@@ -17,7 +17,7 @@ use Rattle.model.proofs.TreeLaws.{keys_form}
 use Rattle.model.proofs.Places.{form_of?, rows_of?, forms_place, maps_place, form_at_lem}
 use Rattle.model.proofs.Grants.{create_rows, put_rows, remove_rows}
 use Rattle.model.specs.Model.{Trees, Model, maps_of, forms, shape_of, free, holds, late, refusal, tree_of, new_tree}
-use Rattle.model.proofs.Ideal.{standing, with_change, after, next, reply, broken, landed, cut_model}
+use Rattle.model.specs.Ideal.{standing, with_change, after, next, reply, broken, landed, cut_model}
 use Rattle.model.specs.World.{Mode, Mode.mounted, Mode.sealed, Mode.down, Event, Event.did, Event.broke, Event.lost, Run, Step, bare, model_of, shape, Tables, placed, FreeWrite, Changed, Effect, Quiet}
 use Rattle.model.specs.Right.{Outcome, fed, Shows, Makes, Takes, free_in, Shares, Right, Histories}
 use Rattle.model.proofs.Shared.{clone_free}

@@ -15,7 +15,7 @@ use Rattle.model.proofs.Places.{form_of?, rows_of?, forms_place, maps_place, for
 use Rattle.model.proofs.TreeLaws.{grow_form}
 use Rattle.tree.specs.Reads.{look}
 use Rattle.model.specs.Model.{Forms, Model, Shapes, forms, maps_of, shape_of, free, form_at, holds, late, refusal, tree_of, source, new_tree}
-use Rattle.model.proofs.Ideal.{left_after, standing, with_change, after, next, reply, finished, cut_model, landed, broken, working≔}
+use Rattle.model.specs.Ideal.{left_after, standing, with_change, after, next, reply, finished, cut_model, landed, broken, working≔}
 use Rattle.model.specs.World.{Mode, Mode.mounted, Mode.down, Run, bare, model_of}
 use Rattle.model.specs.TwoRuns as tw
 use Rattle.model.specs.TwoRuns.{Both, Both.alike, one, two, Legal, Twin, legal, Marks, clear, SameCut, finished_marks, touched, same_angle, mark_ask, marked, unless, refusal_in, Unseen, Remain, Finds, Agree, TwoRuns}

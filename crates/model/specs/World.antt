@@ -13,6 +13,7 @@ use Rattle.table.specs.Rows.{payload_of}
 use Rattle.model.specs.TreeBlocks.{Change, Change.begin, Change.puts, Change.takes, elem, tree_at, Stored, root_of, Each, new_blocks}
 use Rattle.model.specs.Walk.{Fault, Fault.Damage, Fault.Malform, walk}
 use Rattle.model.specs.Model.{Trees, Model, Shapes, shape_of, maps_of, refusal, free, used, holds, source, new_tree}
+use Rattle.model.specs.Ideal.{next, reply, broken, cut_model}
 
 pub record Tables : Type 0 where
   pub working : Table
@@ -181,3 +182,15 @@ module _ (V : Type 0) (join : ℕ → Map → V) where
   Run w m (broke c os k κ ∷ es) =
       ((a : Answer V) × (w' : Mode) × (m' : Meaning) × Step w m c a os w' m') × Run down (cut κ (replay (take k os) m)) es
   Run w m (lost κ ∷ es) = Run down (cut κ m) es
+
+  -- every answer of the history is that of the trees, which follow from the calls and the cuts alone
+  abbrev pub Traced : Model → List (Event V) → Type 0
+  Traced M [] = Unit
+  Traced M (did c a os w' m' ∷ es) = (a ≡ reply V join M c) × Traced (next M c) es
+  Traced M (broke c os k κ ∷ es) = Traced (cut_model κ (broken M c k κ)) es
+  Traced M (lost κ ∷ es) = Traced (cut_model κ M) es
+
+abbrev pub Refines : (V : Type 0) → Type 0
+Refines V =
+    (join : ℕ → Map → V) (m : Meaning) (es : List (Event V))
+    → Formatted m → Run V join (mounted bare) m es → Traced V join (model_of bare m) es

@@ -7,7 +7,7 @@ use Rattle.model.specs.Plain.{Map, Call, Answer}
 use Rattle.model.specs.World.{Mode, Mode.mounted, Mode.down, Event, Event.did, Event.broke, Event.lost, Step, Run, bare}
 use Rattle.model.specs.World.{model_of}
 use Rattle.model.specs.Model.{Model}
-use Rattle.model.proofs.Ideal.{next, broken, cut_model}
+use Rattle.model.specs.Ideal.{next, broken, cut_model}
 use Rattle.model.proofs.Histories.{Fine, step_fine, broke_fine, idle_cut, formatted_fine}
 use Rattle.model.proofs.Right.{histories}
 use Rattle.piles.specs.Piles.{Pile, shows, Built, PerBottom, if_done, whole, Accepts, Cuts, anew, counts, calls}

@@ -12,7 +12,7 @@ use Rattle.model.specs.Plain.{Map, Ask, Answer}
 use Rattle.model.specs.Plain.{Ask.create, Ask.clone, Ask.delete, Ask.put, Ask.remove, Ask.get, Ask.at, Ask.rows, Ask.summary, Ask.seal, Call.ask, Call.finish, Call.reopen, Call.mount, Answer.done, Answer.refused}
 use Rattle.model.specs.TreeBlocks.{Each, Change, Change.begin, Change.puts, Change.takes, changed, new_blocks, writes, form, without_angle}
 use Rattle.model.specs.Model.{Model, shape_of, free, holds, refusal, source}
-use Rattle.model.proofs.Ideal.{writes_for}
+use Rattle.model.specs.Ideal.{writes_for}
 use Rattle.model.specs.World.{Tables, Mode, Mode.mounted, Mode.sealed, Mode.down, model_of, shape, targets, FreeWrite, Changed, Effect, Quiet, Mounts, Step, found, fresh, finishing}
 use Rattle.model.specs.TwoRuns as tw
 use Rattle.model.specs.TwoRuns.{Both, Both.alike, Legal, Marks, one, two}

@@ -10,7 +10,7 @@ use Rattle.model.specs.TwoRuns as tw
 use Rattle.model.specs.TwoRuns.{Twin, legal, Agree, clear, SameCut}
 use Rattle.model.specs.TwoRuns.{Marks}
 use Rattle.model.specs.Model.{Model}
-use Rattle.model.proofs.Ideal.{cut_model, broken, next}
+use Rattle.model.specs.Ideal.{cut_model, broken, next}
 use Rattle.model.specs.World.{model_of}
 use Rattle.model.proofs.Histories.{Fine, step_fine, broke_fine, idle_cut, formatted_fine}
 use Rattle.model.proofs.TwoRuns.{Rel, rel_next, rel_broken, rel_cut, clear_rel}
