@@ -1,5 +1,5 @@
 -- Worked figures, as equations on the definitions that contracts cite.
-use Rattle.std.specs.Prelude.{◌≡◌, ℕ, true, false, List, [], ◌∷◌, ℤ, pos, negsuc, Some, Ok, Err, Option}
+use Rattle.std.specs.Prelude.{◌≡◌, ℕ, true, false, List, [], ◌∷◌, ℤ, pos, negsuc, Some, None, Ok, Err, Option}
 use Rattle.table.specs.declared.row.RowFault.TheVariants.{Speed, Angle}
 use Rattle.table.specs.Rows.{checked_row, payload_of, fault_number}
 use Rattle.table.specs.Angles.{angle_at}
@@ -46,7 +46,10 @@ pub record Figures : Type 0 where
   -- slots of generations 4, 5: 5 is used; 6, 5: 6
   pub slots_4_5 : (t u : Table) → latest (Some (4, t)) (Some (5, u)) ≡ Some (5, u)
   pub slots_6_5 : (t u : Table) → latest (Some (6, t)) (Some (5, u)) ≡ Some (6, t)
-  -- slots of generations 4, 7 or 5, 4: refused, whatever the walk would find
+  -- slots of generations 4, 7: none is used; 5 in block 0: no slot
+  pub slots_4_7_none : (t u : Table) → latest (Some (4, t)) (Some (7, u)) ≡ None
+  pub slot_5_in_block_0 : (n : ℕ) (t : Table) → if_stands n 0 (Some (5, t)) ≡ None
+  -- so slots of generations 4, 7 or 5, 4: refused, whatever the walk would find
   pub slots_4_7 : (f : Table → Option (ℕ × Fault)) (t u : Table) → walked f (latest (Some (4, t)) (Some (7, u))) ≡ Err NoVolume
   pub slots_5_4 : (f : Table → Option (ℕ × Fault)) (n : ℕ) (t u : Table) → walked f (latest (if_stands n 0 (Some (5, t))) (if_stands n 1 (Some (4, u)))) ≡ Err NoVolume
   pub no_volume_number : number NoVolume ≡ 13
