@@ -10,6 +10,7 @@ use counts::{Counts, Store};
 use device::Device;
 use memory::Memory;
 use page::page::{Entry, Page};
+use page::page_words::PageWords;
 use page::roots::Root;
 use std::test::Fail;
 use table::{Count, Extent, Pair, Span, Sum};
@@ -118,6 +119,11 @@ fn two_leaves(rt: HostRuntime) -> Result<(), Fail> {
         })
     );
     assert_eq!(rt; summary::<_, Sum>(&mut store, root).angles, 2_800);
+    // The payload of the second leaf's first row, as it is read from the words.
+    let mut words = PageWords::empty();
+    let read = store.blocks() > 3 && store.try_load(3, &mut words)? && words.len() > 0;
+    let value = if read { words.value(0) } else { 0 };
+    assert_eq!(rt; value, 8_900);
     let (_memory, _counts) = store.into_parts();
     Ok(())
 }
