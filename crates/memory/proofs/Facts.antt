@@ -1,8 +1,9 @@
 -- What the device in memory does to its slices, and so to its meaning.
-use Rattle.std.proofs.Common.{◌≡◌, ℕ, zero, suc, ◌+◌, ◌-◌, ◌*◌, ◌^◌, ◌<◌, ◌≤◌, min, List, [], ◌∷◌, ◌++◌, map, length, get_or, take, drop, set, replicate, Ok, sym, refl, ap, ◌∙◌, subst, ⊎_elim, arith}
+use Rattle.std.proofs.Common.{◌≡◌, ℕ, zero, suc, ◌+◌, ◌-◌, ◌*◌, ◌^◌, ◌<◌, ◌≤◌, min, List, [], ◌∷◌, ◌++◌, map, length, get_or, take, drop, set, replicate, Ok, sym, refl, ap, ◌∙◌, subst, ⊎_elim, arith, rules, add-mul}
 use borrow.Rule.Slice.PartMut.{put_mid}
 use Rattle.std.specs.List.{range_with_len, AllByRecursion}
-use Rattle.std.proofs.lemmas.List.{length-set, length-append, length-take-le, length-drop, get_or-set_same, get_or-set_other, drop-take, get_or-replicate, length-replicate, take-append-drop, drop-drop, ext_get_or}
+use Rattle.std.proofs.lemmas.List.{length-set, length-append, length-take-le, length-drop, get_or-set_same, get_or-set_other, drop-take, get_or-replicate, length-replicate, take-append-drop, drop-drop, ext_get_or, take-take, places}
+use Rattle.std.proofs.lemmas.Nat.{mul-le}
 use Rattle.std.proofs.ByRecursion.{All-append, All-take, All-drop}
 use Rattle.std.proofs.lemmas.Slice.{between-put_mid, drop-put_mid, take-put_mid_below}
 use Rattle.std.proofs.lemmas.List.FromFn.{length-map-range_with_len}
@@ -12,7 +13,6 @@ use Rattle.device.specs.declared.Layer.TheVariants.{Memory}
 use Rattle.device.specs.Showing.{count_shown, content_shown}
 use Rattle.device.proofs.Calls.{let_in, reading_at}
 use Rattle.device.proofs.Tables.{map_map, get_or_table, set_table, same_table, rows}
-use Rattle.memory.specs.Fit.{block_length}
 use Rattle.memory.specs.Memory.{Parts, parts, memory, cleared, Shaped, Sound, block_of, cell_of, Leaves, Outlasts}
 
 module _ (xs : List ℕ) (w n : ℕ) (long : length xs ≡ n * w) where
@@ -168,15 +168,6 @@ persist_start p s = record {
 }
 
 module _ (cur per marks : List ℕ) (w n i : ℕ) (h : i < n) (p : Persisting cur per marks w n i) where
-  pub persist_skip : get_or marks i 0 ≡ 0 → Persisting cur per marks w n (i + 1)
-  persist_skip z = record {
-    cur_len = p.cur_len;
-    per_len = p.per_len;
-    count = p.count;
-    clean = p.clean;
-    done = λ b l. ⊎_elim (λ (e : b ≡ i). subst (λ (x : ℕ). get_or marks x 0 ≡ 0) (sym e) z) (λ ne. p.done b (omega (arith, l, ne))) (cases_eq b i);
-  }
-
   pub persist_over : (k : ℕ) → ((b : ℕ) → i ≤ b → b < i + k → get_or marks b 0 ≡ 0) → Persisting cur per marks w n (i + k)
   persist_over k z = record {
     cur_len = p.cur_len;
@@ -186,23 +177,87 @@ module _ (cur per marks : List ℕ) (w n i : ℕ) (h : i < n) (p : Persisting cu
     done = λ b l. ⊎_elim (λ (e : b < i). p.done b e) (λ (e : i ≤ b). z b e l) (cases_lt b i);
   }
 
-  pub persist_step : (k : ℕ) (ys : List ℕ) → k ≡ w → ys ≡ block_of w cur i → Persisting cur (put_mid (i * w) k per ys) (set marks i 0) w n (i + 1)
-  persist_step k ys count e =
-      let size : length ys ≡ w = ap length e ∙ block_length cur w n p.cur_len i h in
-      let there : i < length marks = omega (arith, h, p.count) in
-      record {
-        cur_len = p.cur_len;
-        per_len = put_length per w n p.per_len i k ys h size count;
-        count = length-set marks i 0 ∙ p.count;
-        clean = λ b l z. ⊎_elim
-            (λ (q : b ≡ i). subst (λ (x : ℕ). block_of w (put_mid (i * w) k per ys) x ≡ block_of w cur x) (sym q) (put_same per w n p.per_len i k ys h size count ∙ e))
-            (λ (ne : b ≡ i → ⊥). put_other per w n p.per_len i k ys h size count b l ne ∙ p.clean b l (sym (get_or-set_other marks i b 0 0 ne) ∙ z))
-            (cases_eq b i);
-        done = λ b l. ⊎_elim
-            (λ (q : b ≡ i). subst (λ (x : ℕ). get_or (set marks i 0) x 0 ≡ 0) (sym q) (get_or-set_same marks i 0 0 there))
-            (λ (ne : b ≡ i → ⊥). get_or-set_other marks i b 0 0 ne ∙ p.done b (omega (arith, l, ne)))
-            (cases_eq b i);
-      }
+-- a run of g blocks ends within the n blocks
+pub run_fits : (i g n w : ℕ) → i + g ≤ n → i * w + g * w ≤ n * w
+run_fits i g n w h = omega (arith, mul-le (i + g) w n w h (omega arith), add-mul i g w)
+
+-- a block of a run is a part of the run
+block_in_run : (v i m g : ℕ) (xs : List ℕ) → m * v + v ≤ g * v → block_of v xs (i + m) ≡ drop (m * v) (take (m * v + v) (take (g * v) (drop (i * v) xs)))
+block_in_run v i m g xs fits =
+    ap (λ k. take v (drop k xs)) (add-mul i m v)
+    ∙ ap (take v) (sym (drop-drop (m * v) (i * v) xs))
+    ∙ sym (drop-take (m * v) v (drop (i * v) xs))
+    ∙ ap (drop (m * v)) (sym (take-take (m * v + v) (g * v) (drop (i * v) xs) fits))
+
+same_in_run : (v i g b : ℕ) (xs ys : List ℕ) → i ≤ b → b < i + g → take (g * v) (drop (i * v) xs) ≡ take (g * v) (drop (i * v) ys) → block_of v xs b ≡ block_of v ys b
+same_in_run v i g b xs ys low high same =
+    let fits : (b - i) * v + v ≤ g * v = rows (b - i) g v (omega (arith, low, high)) in
+    let at : b ≡ i + (b - i) = omega (arith, low) in
+    ap (block_of v xs) at
+    ∙ block_in_run v i (b - i) g xs fits
+    ∙ ap (λ r. drop ((b - i) * v) (take ((b - i) * v + v) r)) same
+    ∙ sym (block_in_run v i (b - i) g ys fits)
+    ∙ sym (ap (block_of v ys) at)
+
+-- A run of g blocks is copied whole, and its marks are taken away.
+module _ (cur per marks : List ℕ) (w n i g k j : ℕ) (ys zs : List ℕ) (h : i + g ≤ n) (p : Persisting cur per marks w n i) where
+  module _ (words : k ≡ g * w) (count : j ≡ g) (copied : ys ≡ take (g * w) (drop (i * w) cur)) (taken : zs ≡ replicate g 0) where
+    abbrev per′ : List ℕ
+    per′ = put_mid (i * w) k per ys
+
+    abbrev marks′ : List ℕ
+    marks′ = put_mid i j marks zs
+
+    size : length ys ≡ g * w
+    size = ap length copied ∙ length-take-le (g * w) (drop (i * w) cur) (simp length-drop (omega (arith, run_fits i g n w h, p.cur_len)))
+
+    zeros : length zs ≡ g
+    zeros = ap length taken ∙ length-replicate g 0
+
+    long : length per′ ≡ n * w
+    long = simp (length-append, length-drop) (omega (arith, length-take-le (i * w) per (omega (arith, run_fits i g n w h, p.per_len)), run_fits i g n w h, p.per_len, size, words))
+
+    many : length marks′ ≡ n
+    many = simp (length-append, length-drop) (omega (arith, length-take-le i marks (omega (arith, h, p.count)), h, p.count, zeros, count))
+
+    inside : take (g * w) (drop (i * w) per′) ≡ ys
+    inside =
+        let e : (i * w + g * w) - i * w ≡ g * w = omega arith in
+        subst (λ m. take m (drop (i * w) per′) ≡ ys) e
+        (between-put_mid (i * w) k per ys (i * w + g * w) (omega (arith, run_fits i g n w h, p.per_len)) (omega (arith, size)))
+
+    before : (b : ℕ) → b < i → block_of w per′ b ≡ block_of w per b
+    before b lt =
+        sym (drop-take (b * w) w per′)
+        ∙ ap (drop (b * w)) (take-put_mid_below (i * w) k per ys (b * w + w) (rows b i w lt) (omega (arith, run_fits i g n w h, p.per_len)))
+        ∙ drop-take (b * w) w per
+
+    after : (b : ℕ) → i + g ≤ b → block_of w per′ b ≡ block_of w per b
+    after b le = ap (take w) (drop-put_mid (i * w) k per ys (b * w) (omega (arith, run_fits i g b w le, words)) (omega (arith, run_fits i g n w h, p.per_len)) (omega (arith, size, words)))
+
+    mark_before : (b : ℕ) → b < i → get_or marks′ b 0 ≡ get_or marks b 0
+    mark_before b lt = search (rules, places)
+
+    mark_inside : (b : ℕ) → i ≤ b → b < i + g → get_or marks′ b 0 ≡ 0
+    mark_inside b low high = search (rules, places)
+
+    mark_after : (b : ℕ) → i + g ≤ b → get_or marks′ b 0 ≡ get_or marks b 0
+    mark_after b le = search (rules, places)
+
+    pub persist_run : Persisting cur per′ marks′ w n (i + g)
+    persist_run = record {
+      cur_len = p.cur_len;
+      per_len = long;
+      count = many;
+      clean = λ b l z. ⊎_elim
+          (λ (lt : b < i). before b lt ∙ p.clean b l (p.done b lt))
+          (λ (low : i ≤ b). ⊎_elim
+          (λ (high : b < i + g). same_in_run w i g b per′ cur low high (inside ∙ copied))
+          (λ (le : i + g ≤ b). after b le ∙ p.clean b l (sym (mark_after b le) ∙ z))
+          (cases_lt b (i + g)))
+          (cases_lt b i);
+      done = λ b l. ⊎_elim (λ (lt : b < i). mark_before b lt ∙ p.done b lt) (λ (low : i ≤ b). mark_inside b low l) (cases_lt b i);
+    }
 
 -- words are the same where they are block by block
 by_blocks : (v n : ℕ) (xs ys : List ℕ) → length xs ≡ n * v → length ys ≡ n * v → ((b : ℕ) → b < n → block_of v xs b ≡ block_of v ys b) → xs ≡ ys

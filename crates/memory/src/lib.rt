@@ -86,7 +86,8 @@ fn settle(from: &mut [u32], to: &mut [u32], marks: &mut [u8])
     marks.fill(0);
 }
 
-// The same where the contents differ in marked blocks alone: only these are copied.
+// The same where the contents differ in marked blocks alone: sixteen blocks of which none is marked are stepped over, and a
+// run of others is copied at once. A block of the run that is not marked holds the same words in both.
 fn settle_marked(from: &mut [u32], to: &mut [u32], marks: &mut [u8], width: usize)
     requires { Sound (parts from.old to.old marks.old width) }
     ensures from { from.new ≡ from.old }
@@ -99,12 +100,15 @@ fn settle_marked(from: &mut [u32], to: &mut [u32], marks: &mut [u8], width: usiz
         if blocks - block >= 16 && highest_of(marks, block) == 0 {
             block += 16;
         } else {
-            if marks[block] > 0 {
-                let start = block * width;
-                to[start..start + width].copy_from_slice(&from[start..start + width]);
-                marks[block] = 0;
+            let mut run = (blocks - block).min(16);
+            while blocks - block - run >= 16 && highest_of(marks, block + run) > 0 {
+                run += 16;
             }
-            block += 1;
+            let start = block * width;
+            let words = run * width;
+            to[start..start + words].copy_from_slice(&from[start..start + words]);
+            marks[block..block + run].fill(0);
+            block += run;
         }
     }
 }

@@ -1,21 +1,29 @@
-use Rattle.std.proofs.Common.{◌≡◌, ℕ, ◌+◌, ◌-◌, ◌*◌, ◌<◌, length, take, drop, ap, subst, ◌∙◌, arith}
-use Rattle.memory.proofs.Facts.{Persisting, persist_step, persist_skip, persist_end, persist_marks}
-use Rattle.memory.proofs.settle_marked.Goals.{then-marks-block-gt0, else-marks-block-gt0}
+use Rattle.std.proofs.Common.{◌≡◌, ℕ, ◌+◌, ◌-◌, ◌*◌, ◌≤◌, length, take, drop, replicate, ap, subst, ◌∙◌, arith}
+use Rattle.std.proofs.lemmas.List.{length-take-le, length-drop}
+use Rattle.memory.proofs.Facts.{Persisting, run_fits, persist_run, persist_end, persist_marks}
 use Rattle.memory.proofs.settle_marked.Goals as goal
+
+pub slice_bounds-copy_from_slice-end : goal.slice_bounds-copy_from_slice-end
+slice_bounds-copy_from_slice-end c =
+    let n = length c.args.marks.now in
+    let h : c.loop-block.block + c.loop-run.run ≤ n = omega (arith, c.loop-run.invariant.within, c.loop-block.invariant.part.count) in
+    omega (arith, run_fits c.loop-block.block c.loop-run.run n c.args.width h, c.loop-block.invariant.part.per_len)
 
 pub loop-block-preserved : goal.loop-block-preserved
 loop-block-preserved c =
     let n = length c.args.marks.now in
+    let w = c.args.width in
     let i = c.loop-block.block in
-    let p = c.loop-block.invariant.part in
-    let h : i < n = omega (arith, c.loop-block-test.true) in
-    let whole : (i * c.args.width + c.args.width) - i * c.args.width ≡ c.args.width = omega arith in
-    let part : Persisting c.args.from.now c.if-marks-block-gt0.to c.if-marks-block-gt0.marks c.args.width n (i + 1) = elim c.if-marks-block-gt0.branch [
-      | then-marks-block-gt0 w ↦ rw (w.to-is, w.marks-is) (persist_step c.args.from.now c.loop-block.to c.loop-block.marks c.args.width n i h p _ w.copy_from_slice.new.self whole
-          (w.copy_from_slice.ensures.after ∙ ap (λ (m : ℕ). take m (drop (i * c.args.width) c.args.from.now)) whole))
-      | else-marks-block-gt0 w ↦ rw (w.to-is, w.marks-is) (persist_skip c.args.from.now c.loop-block.to c.loop-block.marks c.args.width n i h p (omega (arith, w.if-marks-block-gt0.false)))
-    ] in
-    record { within = omega (arith, h); part = part }
+    let g = c.loop-run.run in
+    let h : i + g ≤ n = omega (arith, c.loop-run.invariant.within, c.loop-block.invariant.part.count) in
+    let words : (i * w + g * w) - i * w ≡ g * w = omega arith in
+    let count : (i + g) - i ≡ g = omega arith in
+    let copied : c.copy_from_slice.new.self ≡ take (g * w) (drop (i * w) c.args.from.now)
+    = c.copy_from_slice.ensures.after ∙ ap (λ (m : ℕ). take m (drop (i * w) c.args.from.now)) words in
+    let part : length (take ((i + g) - i) (drop i c.loop-block.marks)) ≡ g
+    = length-take-le ((i + g) - i) (drop i c.loop-block.marks) (simp length-drop (omega (arith, h, c.loop-block.invariant.part.count))) ∙ count in
+    let taken : c.fill.new.self ≡ replicate g 0 = c.fill.ensures.after (λ y e. e) ∙ ap (λ (m : ℕ). replicate m 0) part in
+    record { within = h; part = persist_run c.args.from.now c.loop-block.to c.loop-block.marks w n i g _ _ _ _ h c.loop-block.invariant.part words count copied taken }
 
 pub returns-clause-to : goal.returns-clause-to
 returns-clause-to c =

@@ -1,4 +1,4 @@
-use Rattle.std.proofs.Common.{◌-◌, ◌≤◌, length}
+use Rattle.std.proofs.Common.{◌+◌, ◌-◌, ◌<◌, ◌≤◌, length}
 use Rattle.memory.proofs.Facts.{Persisting}
 use Rattle.memory.proofs.settle_marked.Given as goal
 
@@ -10,3 +10,9 @@ invariant-loop-block l = record {
 
 abbrev pub decreases-loop-block : goal.decreases-loop-block
 decreases-loop-block l = length l.initial.marks - l.block
+
+abbrev pub invariant-loop-run : goal.invariant-loop-run
+invariant-loop-run l = record { some : 0 < l.run; within : l.block + l.run ≤ length l.initial.marks }
+
+abbrev pub decreases-loop-run : goal.decreases-loop-run
+decreases-loop-run l = length l.initial.marks - l.run
