@@ -91,8 +91,8 @@ fn settle(from: &mut [u32], to: &mut [u32], marks: &mut [u8])
     marks.fill(0);
 }
 
-// The same where the contents differ in marked blocks alone: sixteen blocks of which none is marked are stepped over, and a
-// run of others is copied at once. A block of the run that is not marked holds the same words in both.
+// The same where the contents differ in marked blocks alone: sixteen blocks of which none is marked are stepped over, and
+// a run of others is copied at once. A block of the run that is not marked holds the same words in both.
 fn settle_marked(from: &mut [u32], to: &mut [u32], marks: &mut [u8], width: usize)
     requires { Sound (parts from.old to.old marks.old width) }
     ensures from { from.new ≡ from.old }
