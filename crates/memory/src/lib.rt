@@ -71,7 +71,7 @@ impl<'a> Slices<'a> {
         ensures marks { self.new.marks.now ≡ replicate (length self.old.marks.now) 0 }
     {
         // A copy of all blocks takes less than a look at all marks where a block is this narrow.
-        if width < 4 {
+        if width < 16 {
             settle(self.current, self.persisted, self.marks);
         } else {
             settle_marked(self.current, self.persisted, self.marks, width);
@@ -91,8 +91,8 @@ fn settle(from: &mut [u32], to: &mut [u32], marks: &mut [u8])
     marks.fill(0);
 }
 
-// The same where the contents differ in marked blocks alone: sixteen blocks of which none is marked are stepped over, and
-// a run of others is copied at once. A block of the run that is not marked holds the same words in both.
+// The same where the contents differ in marked blocks alone: only these are copied, a run of them at once. Sixteen blocks of
+// which none is marked are stepped over, and sixteen of which one is marked are gone through one by one.
 fn settle_marked(from: &mut [u32], to: &mut [u32], marks: &mut [u8], width: usize)
     requires { Sound (parts from.old to.old marks.old width) }
     ensures from { from.new ≡ from.old }
@@ -101,21 +101,39 @@ fn settle_marked(from: &mut [u32], to: &mut [u32], marks: &mut [u8], width: usiz
 {
     let blocks = marks.len();
     let mut block = 0;
+    let mut looked = 0;
     while block < blocks {
-        if blocks - block >= 16 && highest_of(marks, block) == 0 {
+        if block >= looked && blocks - block >= 16 && highest_of(marks, block) == 0 {
             block += 16;
         } else {
-            let mut run = (blocks - block).min(16);
-            while blocks - block - run >= 16 && highest_of(marks, block + run) > 0 {
-                run += 16;
+            if block >= looked {
+                looked = block + 16;
             }
-            let start = block * width;
-            let words = run * width;
-            to[start..start + words].copy_from_slice(&from[start..start + words]);
-            marks[block..block + run].fill(0);
-            block += run;
+            let run = marked_run(marks, block);
+            if run == 0 {
+                block += 1;
+            } else {
+                let start = block * width;
+                let words = run * width;
+                to[start..start + words].copy_from_slice(&from[start..start + words]);
+                marks[block..block + run].fill(0);
+                block += run;
+            }
         }
     }
+}
+
+// How many blocks from a place on are marked, up to the first that is not.
+fn marked_run(marks: &[u8], from: usize) -> usize
+    requires { from < length marks.now }
+    ensures within { from + result ≤ length marks.now }
+    ensures none { result ≡ 0 → slice_index marks.now from ≡ 0 }
+{
+    let mut run = 0;
+    while from + run < marks.len() && marks[from + run] > 0 {
+        run += 1;
+    }
+    run
 }
 
 // The highest of sixteen marks.

@@ -6,16 +6,16 @@ use Rattle.memory.proofs.settle_marked.Goals as goal
 pub slice_bounds-copy_from_slice-end : goal.slice_bounds-copy_from_slice-end
 slice_bounds-copy_from_slice-end c =
     let n = length c.args.marks.now in
-    let h : c.loop-block.block + c.loop-run.run ≤ n = omega (arith, c.loop-run.invariant.within, c.loop-block.invariant.part.count) in
-    omega (arith, run_fits c.loop-block.block c.loop-run.run n c.args.width h, c.loop-block.invariant.part.per_len)
+    let h : c.loop-block.block + c.marked_run-run.result ≤ n = omega (arith, c.marked_run-run.ensures.within, c.loop-block.invariant.part.count) in
+    omega (arith, run_fits c.loop-block.block c.marked_run-run.result n c.args.width h, c.loop-block.invariant.part.per_len)
 
 pub loop-block-preserved : goal.loop-block-preserved
 loop-block-preserved c =
     let n = length c.args.marks.now in
     let w = c.args.width in
     let i = c.loop-block.block in
-    let g = c.loop-run.run in
-    let h : i + g ≤ n = omega (arith, c.loop-run.invariant.within, c.loop-block.invariant.part.count) in
+    let g = c.marked_run-run.result in
+    let h : i + g ≤ n = omega (arith, c.marked_run-run.ensures.within, c.loop-block.invariant.part.count) in
     let words : (i * w + g * w) - i * w ≡ g * w = omega arith in
     let count : (i + g) - i ≡ g = omega arith in
     let copied : c.copy_from_slice.new.self ≡ take (g * w) (drop (i * w) c.args.from.now)

@@ -10,9 +10,3 @@ invariant-loop-block l = record {
 
 abbrev pub decreases-loop-block : goal.decreases-loop-block
 decreases-loop-block l = length l.initial.marks - l.block
-
-abbrev pub invariant-loop-run : goal.invariant-loop-run
-invariant-loop-run l = record { some : 0 < l.run; within : l.block + l.run ≤ length l.initial.marks }
-
-abbrev pub decreases-loop-run : goal.decreases-loop-run
-decreases-loop-run l = length l.initial.marks - l.run
