@@ -70,8 +70,8 @@ impl<'a> Slices<'a> {
         ensures persisted { self.new.persisted.now ≡ self.old.current.now }
         ensures marks { self.new.marks.now ≡ replicate (length self.old.marks.now) 0 }
     {
-        // A copy of all blocks takes less than a look at all marks where a block is this narrow.
-        if width < 16 {
+        // A copy of all blocks takes no more than a look at all marks where a block is this narrow.
+        if width < 4 {
             settle(self.current, self.persisted, self.marks);
         } else {
             settle_marked(self.current, self.persisted, self.marks, width);
