@@ -1,7 +1,7 @@
 -- The hint where the lowest free block may be.
 use Rattle.std.proofs.Common.{◌≡◌, ℕ, zero, suc, ◌+◌, ◌-◌, ◌<◌, ◌≤◌, min, max, Bool, true, false, cond, eqb, List, length, get_or, set, sym, ap, ◌∙◌, subst, ⊎_elim, arith}
 use Rattle.std.proofs.lemmas.Bool.{lt-ltb, cases_eq, cases_lt}
-use Rattle.std.proofs.lemmas.List.{get_or-set_same, get_or-set_other}
+use Rattle.std.proofs.lemmas.List.{get_or-set_other}
 use Rattle.counts.specs.Counts.{spare, free_blocks, add_all, opened}
 use Rattle.counts.specs.Hint.{Taken, TakenBut}
 use Rattle.counts.proofs.Granting.{spare_none}

@@ -1,18 +1,22 @@
 // References to tree blocks, counted. docs/counts.md explains the equation and the moves that keep it.
 #![tactic(auto)]
 
-ghost use Rattle.std.specs.Prelude.{◌≡◌, ℕ, ◌+◌, ◌-◌, ◌*◌, ◌<◌, ◌≤◌, ◌==◌, length, replicate, Some, slice_index, slice_set};
+ghost use Rattle.std.specs.Prelude.{◌≡◌, ℕ, ◌+◌, ◌-◌, ◌*◌, ◌<◌, ◌≤◌, ◌==◌, [], ◌∷◌, length, replicate, Some, slice_index, slice_set};
 ghost use Rattle.counts.specs.Counts.{AliveIsReached, add_all, opened, Roomy};
 ghost use Rattle.counts.specs.Hint.{Taken, TakenBut};
 ghost use Rattle.counts.specs.Keeping.{retained, RetainKeeps, OpenKeeps, LinkKeeps, CountsFit};
+ghost use Rattle.counts.specs.Moves.{Held, Dropped};
 ghost use Rattle.page.specs.Block.{kids_of};
+ghost use Rattle.page.specs.Io.{Wide};
 ghost use Rattle.page.specs.View.{view};
 ghost use Rattle.arrayvec.specs.ArrayVec.{array_vec_len};
 
 mod grant;
+pub mod moves;
 mod store;
 
 use arrayvec::ArrayVec;
+use device::Device;
 pub use grant::Grant;
 use page::page::Page;
 pub use store::Store;
@@ -166,5 +170,27 @@ impl Counts {
         } else {
             hint
         }
+    }
+
+    // Gives up a reference to a block, and where it was the last, those to its children too; the hint, after that.
+    fn release<D: Device>(&mut self, device: &mut D, hint: usize, block: u32, level: u32) -> usize
+        requires wide { Wide (D.Device.meaning device.old) }
+        requires hint { Taken hint self.old.of.items }
+        requires held { Held (D.Device.meaning device.old, self.old.of.items) block level }
+        ensures kept { D.Device.meaning device.new ≡ D.Device.meaning device.old }
+        ensures dropped { Dropped (block ∷ []) (D.Device.meaning device.old, self.old.of.items) self.new.of.items }
+        ensures sized { length self.new.of.items ≡ length self.old.of.items }
+        ensures hint { Taken result self.new.of.items }
+    {
+        let references = self.get(block);
+        self.set(block, references - 1);
+        let mut hint = self.freed(hint, block);
+        if references == 1 && level > 0 {
+            let page = moves::read_page(device, block);
+            for entry in page.entries.iter() {
+                hint = self.release(device, hint, entry.value, level - 1);
+            }
+        }
+        hint
     }
 }

@@ -10,7 +10,7 @@ ghost use Rattle.counts.specs.Grants.{lowest_free};
 ghost use Rattle.counts.specs.Keeping.{retained};
 ghost use Rattle.counts.specs.Moves.{opening, linking, step, Shaped, Owned, Held, Dropped};
 
-use super::{Counts, Grant};
+use super::{Counts, Grant, moves};
 use device::{Device, DeviceFault, LayerMark, Reader};
 use page::io::{read_slot, write_block};
 use page::page::Page;
@@ -155,9 +155,7 @@ impl<D: Device> Store<D> {
         ensures kept { self.new ≡ self.old }
         ensures page { block_at self.old.0 block ≡ Some (view result) }
     {
-        let mut words = PageWords::empty();
-        self.load(block, &mut words);
-        words.to_page()
+        moves::read_page(&mut self.device, block)
     }
 
     // Gives up a reference to a block for references to its children.
@@ -191,8 +189,7 @@ impl<D: Device> Store<D> {
         requires low { page.now.level < 5 }
         ensures { self.new ≡ step (linking block (view page.now)) self.old }
     {
-        self.write(block, page);
-        self.counts.set(block, 1);
+        moves::link(&mut self.device, &mut self.counts, block, page);
         self.hint = self.counts.taken(self.hint);
     }
 
@@ -203,14 +200,6 @@ impl<D: Device> Store<D> {
         ensures dropped { Dropped (block ∷ []) self.old self.new.1 }
         ensures sized { length self.new.1 ≡ length self.old.1 }
     {
-        let count = self.counts.get(block);
-        self.counts.set(block, count - 1);
-        self.hint = self.counts.freed(self.hint, block);
-        if count == 1 && level > 0 {
-            let page = self.read_page(block);
-            for entry in page.entries.iter() {
-                self.release(entry.value, level - 1);
-            }
-        }
+        self.hint = self.counts.release(&mut self.device, self.hint, block, level);
     }
 }

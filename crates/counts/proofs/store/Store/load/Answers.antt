@@ -1,4 +1,4 @@
-use Rattle.std.proofs.Common.{◌≡◌, ℕ, List, is_some, sym, ap, ◌∙◌}
+use Rattle.std.proofs.Common.{ℕ, List, is_some, sym, ap, ◌∙◌}
 use Rattle.device.specs.Meaning.{Meaning}
 use Rattle.page.specs.Block.{block_at}
 use Rattle.counts.proofs.Shown.{shown_is}
