@@ -127,7 +127,8 @@ fn settle_marked(from: &mut [u32], to: &mut [u32], marks: &mut [u8], width: usiz
 fn marked_run(marks: &[u8], from: usize) -> usize
     requires { from < length marks.now }
     ensures within { from + result ≤ length marks.now }
-    ensures none { result ≡ 0 → slice_index marks.now from ≡ 0 }
+    ensures marked { (i : ℕ) → from ≤ i → i < from + result → 0 < slice_index marks.now i }
+    ensures end { from + result < length marks.now → slice_index marks.now (from + result) ≡ 0 }
 {
     let mut run = 0;
     while from + run < marks.len() && marks[from + run] > 0 {

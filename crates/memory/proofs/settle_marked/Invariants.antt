@@ -1,4 +1,4 @@
-use Rattle.std.proofs.Common.{◌+◌, ◌-◌, ◌<◌, ◌≤◌, length}
+use Rattle.std.proofs.Common.{◌-◌, ◌≤◌, length}
 use Rattle.memory.proofs.Facts.{Persisting}
 use Rattle.memory.proofs.settle_marked.Given as goal
 
