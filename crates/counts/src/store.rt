@@ -200,6 +200,8 @@ impl<D: Device> Store<D> {
         ensures dropped { Dropped (block ∷ []) self.old self.new.1 }
         ensures sized { length self.new.1 ≡ length self.old.1 }
     {
-        self.hint = self.counts.release(&mut self.device, self.hint, block, level);
+        self.hint = self
+            .counts
+            .release(&mut self.device, self.hint, block, level);
     }
 }

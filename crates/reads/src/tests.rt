@@ -6,7 +6,7 @@ ghost use Rattle.page.specs.View.{pair, entries};
 ghost use Rattle.model.specs.TreeBlocks.{GoodOn};
 
 use super::{at, get, list, summary};
-use counts::{Counts, Store};
+use counts::{Counts, Store, moves};
 use device::Device;
 use memory::Memory;
 use page::page::{Entry, Page};
@@ -125,5 +125,24 @@ fn two_leaves(rt: HostRuntime) -> Result<(), Fail> {
     let value = if read { words.value(0) } else { 0 };
     assert_eq!(rt; value, 8_900);
     let (_memory, _counts) = store.into_parts();
+    Ok(())
+}
+
+// Eight counts for sixteen blocks: a link asks for a count of its own block alone.
+#[test]
+fn fewer_counts_than_blocks(rt: HostRuntime) -> Result<(), Fail> {
+    let mut current = [0u32; 512];
+    let mut persisted = [0u32; 512];
+    let mut marks = [0u8; 16];
+    let mut memory = match Memory::open(&mut current, &mut persisted, &mut marks, 32) {
+        Ok(memory) => memory,
+        Err(_) => return Err(Fail::new("the slices have the shape")),
+    };
+    let mut counts = Counts::none(8);
+    moves::link(&mut memory, &mut counts, 5, &leaf(100, 9_500));
+    assert_eq!(rt; counts.get(5), 1);
+    let mut words = PageWords::empty();
+    assert_eq!(rt; words.try_load(&mut memory, 5)?, true);
+    assert_eq!(rt; words.len(), 7);
     Ok(())
 }
