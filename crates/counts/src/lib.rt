@@ -181,6 +181,7 @@ impl Counts {
         ensures dropped { Dropped (block ∷ []) (D.Device.meaning device.old, self.old.of.items) self.new.of.items }
         ensures sized { length self.new.of.items ≡ length self.old.of.items }
         ensures hint { Taken result self.new.of.items }
+        ensures calls { D.Device.led [] device.old device.new }
     {
         let references = self.get(block);
         self.set(block, references - 1);

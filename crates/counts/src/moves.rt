@@ -1,8 +1,10 @@
 // The moves on a device and counts that are held apart. What each asks of the counts is about the blocks that it meets: there
-// may be fewer counts than blocks, or more. A `Store` makes the same moves, and keeps its hint with them.
+// may be fewer counts than blocks, or more. A link makes one write, and nothing else writes or flushes. A `Store` makes the
+// same moves, and keeps its hint with them.
 ghost use Rattle.std.specs.Prelude.{◌≡◌, ℕ, ◌<◌, ◌≤◌, true, [], ◌∷◌, length, is_some, Some, slice_index};
+ghost use Rattle.device.specs.Cuts.{write};
 ghost use Rattle.device.specs.Meaning.{blocks_of};
-ghost use Rattle.page.specs.Block.{block_at};
+ghost use Rattle.page.specs.Block.{block_at, encode};
 ghost use Rattle.page.specs.Io.{Wide};
 ghost use Rattle.page.specs.View.{view};
 ghost use Rattle.counts.specs.Moves.{opening, linking, step, Owned, Held, Dropped};
@@ -19,6 +21,7 @@ pub fn read_page<D: Device>(device: &mut D, block: u32) -> Page
     requires holds { is_some (block_at (D.Device.meaning device.old) block) ≡ true }
     ensures kept { D.Device.meaning device.new ≡ D.Device.meaning device.old }
     ensures page { block_at (D.Device.meaning device.old) block ≡ Some (view result) }
+    ensures calls { D.Device.led [] device.old device.new }
 {
     let mut words = PageWords::empty();
     words.load(device, block);
@@ -32,6 +35,7 @@ pub fn open<D: Device>(device: &mut D, counts: &mut Counts, block: u32) -> Page
     requires few { length counts.old.of.items ≤ 4096 }
     ensures page { block_at (D.Device.meaning device.old) block ≡ Some (view result) }
     ensures state { (D.Device.meaning device.new, counts.new.of.items) ≡ step (opening block) (D.Device.meaning device.old, counts.old.of.items) }
+    ensures calls { D.Device.led [] device.old device.new }
 {
     let page = read_page(device, block);
     counts.open(block, &page);
@@ -46,7 +50,8 @@ pub fn link<D: Device>(device: &mut D, counts: &mut Counts, block: u32, page: &P
     requires free { slice_index counts.old.of.items block ≡ 0 }
     requires left { 0 < (D.Device.meaning device.old).left }
     requires low { page.now.level < 5 }
-    ensures { (D.Device.meaning device.new, counts.new.of.items) ≡ step (linking block (view page.now)) (D.Device.meaning device.old, counts.old.of.items) }
+    ensures state { (D.Device.meaning device.new, counts.new.of.items) ≡ step (linking block (view page.now)) (D.Device.meaning device.old, counts.old.of.items) }
+    ensures calls { D.Device.led (write block (encode (D.Device.meaning device.old).width (view page.now)) ∷ []) device.old device.new }
 {
     write_block(device, block, page).unwrap();
     counts.set(block, 1);
@@ -59,6 +64,7 @@ pub fn release<D: Device>(device: &mut D, counts: &mut Counts, block: u32, level
     ensures kept { D.Device.meaning device.new ≡ D.Device.meaning device.old }
     ensures dropped { Dropped (block ∷ []) (D.Device.meaning device.old, counts.old.of.items) counts.new.of.items }
     ensures sized { length counts.new.of.items ≡ length counts.old.of.items }
+    ensures calls { D.Device.led [] device.old device.new }
 {
     counts.release(device, 2, block, level);
 }

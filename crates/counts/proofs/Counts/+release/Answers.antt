@@ -80,6 +80,7 @@ loop-entry-preserved g t c =
       sized = c.release-hint.ensures.sized ∙ c.loop-entry.invariant.sized;
       dropped = subst (λ (ys : List ℕ). Dropped ys (m, ds) after) (sym (take_more ks i 0 lt)) (dropped_push (take i ks) (get_or ks i 0) m ds es after c.loop-entry.invariant.dropped one_more);
       hint = c.release-hint.ensures.hint;
+      calls = g.met.D.Device.goes_on [] [] c.args.device.now c.loop-entry.device c.release-hint.new.device c.loop-entry.invariant.calls c.release-hint.ensures.calls;
     }
 
 pub returns-after-loop-entry-clause-dropped : goal.returns-after-loop-entry-clause-dropped
