@@ -1,6 +1,5 @@
-// The moves on a device and counts that are held apart. What each asks of the counts is about the blocks that it meets: there
-// may be fewer counts than blocks, or more. A link makes one write, and nothing else writes or flushes. A `Store` makes the
-// same moves, and keeps its hint with them.
+// The moves on a device and counts that are held apart. None asks that there are as many counts as blocks. A link makes one
+// write, and nothing else writes or flushes. A `Store` makes the same moves, and keeps its hint with them.
 ghost use Rattle.std.specs.Prelude.{◌≡◌, ℕ, ◌<◌, ◌≤◌, true, [], ◌∷◌, length, is_some, Some, slice_index};
 ghost use Rattle.device.specs.Cuts.{write};
 ghost use Rattle.device.specs.Meaning.{blocks_of};
